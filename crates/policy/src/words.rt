@@ -1,0 +1,82 @@
+//! The words of a question to a policy and of its answer, each with its number.
+ghost use mathlib.Core.Path.{_≡_};
+ghost use Prim.Native.Nat.{_≤_};
+ghost use Rattle.policy.specs.Words.{request-number, kind-number, verdict-number};
+
+/// What a process asks for, numbered from 1.
+#[derive(Clone, Copy)]
+pub enum Request {
+    Alias = 1,
+    Alter,
+    ChangeOwner,
+    ChangeRole,
+    Clone,
+    Create,
+    Delete,
+    DeleteData,
+    Execute,
+    GetPermissionsData,
+    GetStatusData,
+    ModifyAccessData,
+    ModifyAttribute,
+    ModifyPermissionsData,
+    Read,
+    ReadAttribute,
+    ReadWriteOpen,
+    ReadOpen,
+    Search,
+    SendSignal,
+    Terminate,
+    Trace,
+    Write,
+    WriteOpen,
+    Enter,
+}
+
+/// What the request is made on: no object, an object of a kind, or an object's control data (scd).
+#[derive(Clone, Copy)]
+pub enum Kind {
+    NoObject,
+    File,
+    Directory,
+    Ipc,
+    ControlData,
+}
+
+/// What a policy says: it does not care, it consents, it denies, or it has no rule for such a question.
+#[derive(Clone, Copy)]
+pub enum Verdict {
+    DontCare,
+    Yes,
+    No,
+    Undefined,
+}
+
+impl Request {
+    /// Its number, 1 to 25.
+    pub fn number(self) -> u8
+        ensures value { λ r. ⌜ r ≡ request-number self ⌝ }
+        ensures range { λ r. ⌜ 1 ≤ r ⌝ ∗ ⌜ r ≤ 25 ⌝ }
+    {
+        self as u8
+    }
+}
+
+impl Kind {
+    /// Its number, 0 to 4.
+    pub fn number(self) -> u8
+        ensures value { λ r. ⌜ r ≡ kind-number self ⌝ }
+        ensures range { λ r. ⌜ r ≤ 4 ⌝ }
+    {
+        self as u8
+    }
+}
+
+impl Verdict {
+    /// Its number, 0 to 3.
+    pub fn number(self) -> u8
+        ensures { λ r. ⌜ r ≡ verdict-number self ⌝ }
+    {
+        self as u8
+    }
+}
