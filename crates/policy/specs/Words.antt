@@ -1,4 +1,5 @@
 -- The number of each word: of the requests, of the kinds of object, of the verdicts.
+use mathlib.Core.Bool.{Bool, cond}
 use Prim.Native.Nat.{ℕ}
 use Rattle.policy.specs.declared.words.Request.{Request}
 use Rattle.policy.specs.declared.words.Request.the-variants.{Alias, Alter, ChangeOwner, ChangeRole, Clone, Create, Delete, DeleteData, Execute, GetPermissionsData, GetStatusData, ModifyAccessData, ModifyAttribute, ModifyPermissionsData, Read, ReadAttribute, ReadWriteOpen, ReadOpen, Search, SendSignal, Terminate, Trace, Write, WriteOpen, Enter}
@@ -46,3 +47,6 @@ verdict-number DontCare = 0
 verdict-number Yes = 1
 verdict-number No = 2
 verdict-number Undefined = 3
+
+abbrev pub yes-or-no : Bool → Verdict
+yes-or-no holds = cond holds Yes No

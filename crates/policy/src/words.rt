@@ -1,7 +1,7 @@
 //! The words of a question to a policy and of its answer, each with its number.
 ghost use mathlib.Core.Path.{_≡_};
 ghost use Prim.Native.Nat.{_≤_};
-ghost use Rattle.policy.specs.Words.{request-number, kind-number, verdict-number};
+ghost use Rattle.policy.specs.Words.{request-number, kind-number, verdict-number, yes-or-no};
 
 /// What a process asks for, numbered from 1.
 #[derive(Clone, Copy)]
@@ -73,6 +73,13 @@ impl Kind {
 }
 
 impl Verdict {
+    /// YES where the condition holds, else NO.
+    pub fn yes_if(holds: bool) -> Verdict
+        ensures { λ r. ⌜ r ≡ yes-or-no holds ⌝ }
+    {
+        if holds { Verdict::Yes } else { Verdict::No }
+    }
+
     /// Its number, 0 to 3.
     pub fn number(self) -> u8
         ensures { λ r. ⌜ r ≡ verdict-number self ⌝ }

@@ -1,0 +1,3 @@
+pub mod LabelTable
+pub mod LabelPolicy
+pub mod Flows

@@ -1,0 +1,46 @@
+//! The label policy: mandatory labels, over any label order.
+ghost use mathlib.Core.Path.{_≡_};
+ghost use Rattle.policies.specs.LabelTable.{rows};
+ghost use Rattle.policies.specs.LabelPolicy.{ruled, label-verdict};
+ghost use Rattle.policies.specs.Flows.{LearnerDominates, ChangedDominates};
+use crate::label_table::Condition;
+use crate::label_table::condition_of;
+use labels::order::LabelOrder;
+use policy::words::Kind;
+use policy::words::Request;
+use policy::words::Verdict;
+
+/// What the label policy says of a request by a process with one label on an object with another.
+/// Where it says YES, whoever learns dominates what it learns of, and what is changed dominates whoever changes it.
+pub fn label_verdict<O: LabelOrder>(
+    order: &O,
+    request: Request,
+    kind: Kind,
+    process: u64,
+    object: u64,
+) -> Verdict
+    ensures value { λ r. ⌜ r ≡ label-verdict rows (meaning (now (order .entry))) request kind process object ⌝ }
+    ensures learned { λ r. ⌜ LearnerDominates (meaning (now (order .entry))) request kind process object r ⌝ }
+    ensures changed { λ r. ⌜ ChangedDominates (meaning (now (order .entry))) request kind process object r ⌝ }
+{
+    ruling(order, condition_of(request, kind), process, object)
+}
+
+/// What a row says of two labels, and UNDEFINED where there is no row or an unlawful label would be compared.
+fn ruling<O: LabelOrder>(
+    order: &O,
+    condition: Option<Condition>,
+    process: u64,
+    object: u64,
+) -> Verdict
+    ensures { λ r. ⌜ r ≡ ruled (meaning (now (order .entry))) condition process object ⌝ }
+{
+    let comparable = order.is_lawful(process) && order.is_lawful(object);
+    match condition {
+        None => Verdict::Undefined,
+        Some(Condition::Free) => Verdict::Yes,
+        Some(_) if !comparable => Verdict::Undefined,
+        Some(Condition::Equal) => Verdict::yes_if(process == object),
+        Some(Condition::Dominates) => Verdict::yes_if(order.dominates(process, object)),
+    }
+}
