@@ -1,3 +1,4 @@
 pub mod LabelTable
 pub mod LabelPolicy
 pub mod Flows
+pub mod Listing

@@ -1,5 +1,6 @@
 -- The number of each word: of the requests, of the kinds of object, of the verdicts.
 use mathlib.Core.Bool.{Bool, cond}
+use mathlib.Core.List.{List, [], _∷_}
 use Prim.Native.Nat.{ℕ}
 use Rattle.policy.specs.declared.words.Request.{Request}
 use Rattle.policy.specs.declared.words.Request.the-variants.{Alias, Alter, ChangeOwner, ChangeRole, Clone, Create, Delete, DeleteData, Execute, GetPermissionsData, GetStatusData, ModifyAccessData, ModifyAttribute, ModifyPermissionsData, Read, ReadAttribute, ReadWriteOpen, ReadOpen, Search, SendSignal, Terminate, Trace, Write, WriteOpen, Enter}
@@ -47,6 +48,16 @@ verdict-number DontCare = 0
 verdict-number Yes = 1
 verdict-number No = 2
 verdict-number Undefined = 3
+
+-- every request and every kind, by number
+abbrev pub requests : List Request
+requests =
+    Alias ∷ Alter ∷ ChangeOwner ∷ ChangeRole ∷ Clone ∷ Create ∷ Delete ∷ DeleteData ∷ Execute ∷ GetPermissionsData ∷ GetStatusData ∷ ModifyAccessData
+    ∷ ModifyAttribute ∷ ModifyPermissionsData ∷ Read ∷ ReadAttribute ∷ ReadWriteOpen ∷ ReadOpen ∷ Search ∷ SendSignal ∷ Terminate ∷ Trace ∷ Write
+    ∷ WriteOpen ∷ Enter ∷ []
+
+abbrev pub kinds : List Kind
+kinds = NoObject ∷ File ∷ Directory ∷ Ipc ∷ ControlData ∷ []
 
 abbrev pub yes-or-no : Bool → Verdict
 yes-or-no holds = cond holds Yes No

@@ -53,6 +53,35 @@ pub enum Verdict {
 }
 
 impl Request {
+    /// Every request, by number.
+    pub const ALL: [Request; 25] = [
+        Request::Alias,
+        Request::Alter,
+        Request::ChangeOwner,
+        Request::ChangeRole,
+        Request::Clone,
+        Request::Create,
+        Request::Delete,
+        Request::DeleteData,
+        Request::Execute,
+        Request::GetPermissionsData,
+        Request::GetStatusData,
+        Request::ModifyAccessData,
+        Request::ModifyAttribute,
+        Request::ModifyPermissionsData,
+        Request::Read,
+        Request::ReadAttribute,
+        Request::ReadWriteOpen,
+        Request::ReadOpen,
+        Request::Search,
+        Request::SendSignal,
+        Request::Terminate,
+        Request::Trace,
+        Request::Write,
+        Request::WriteOpen,
+        Request::Enter,
+    ];
+
     /// Its number, 1 to 25.
     pub fn number(self) -> u8
         ensures value { λ r. ⌜ r ≡ request-number self ⌝ }
@@ -63,6 +92,15 @@ impl Request {
 }
 
 impl Kind {
+    /// Every kind, by number.
+    pub const ALL: [Kind; 5] = [
+        Kind::NoObject,
+        Kind::File,
+        Kind::Directory,
+        Kind::Ipc,
+        Kind::ControlData,
+    ];
+
     /// Its number, 0 to 4.
     pub fn number(self) -> u8
         ensures value { λ r. ⌜ r ≡ kind-number self ⌝ }
