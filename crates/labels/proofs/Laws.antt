@@ -6,7 +6,7 @@ use Prim.Native.Nat.{ℕ, _%_, _≤_}
 use native.Mathlib.Omega.{arith}
 use lib.Dec.{leb}
 use Rattle.std.proofs.shelf.Tests.{and-parts, and-from, leb-true, le-leb}
-use Rattle.labels.specs.Orders.{Order, OrderLaws, among, level, contains, compartments}
+use Rattle.labels.specs.Orders.{Order, OrderLaws, among-lawful, level, contains, compartments}
 use Rattle.labels.proofs.Sets.{Contains, contains-decides, same-set}
 
 -- an order among lawful codes has the laws if its relation is reflexive, antisymmetric and transitive
@@ -14,8 +14,8 @@ module _ (lawful : ℕ → Bool) (above : ℕ → ℕ → Bool)
     (itself : (a : ℕ) → above a a ≡ true)
     (both-ways : (a b : ℕ) → above a b ≡ true → above b a ≡ true → a ≡ b)
     (onwards : (a b c : ℕ) → above a b ≡ true → above b c ≡ true → above a c ≡ true) where
-  pub among-laws : OrderLaws (among lawful above)
-  among-laws = record {
+  pub lawful-laws : OrderLaws (among-lawful lawful above)
+  lawful-laws = record {
     only-lawful = λ a b h. grind arith;
     reflexive = λ a h. let i = itself a in grind arith;
     antisymmetric = λ a b h k. both-ways a b (grind arith) (grind arith);
@@ -43,7 +43,7 @@ same-code a b h k = omega arith
 
 pub compartments-laws : OrderLaws compartments
 compartments-laws =
-    among-laws _ above
+    lawful-laws _ above
     (λ a. shown a a (record { higher = omega arith; wider = λ k lt h. h }))
     (λ a b h k.
     let d = parts a b h in

@@ -20,8 +20,8 @@ pub record OrderLaws (o : Order) : Type 0 where
   pub transitive : (a b c : ℕ) → o .dominates a b ≡ true → o .dominates b c ≡ true → o .dominates a c ≡ true
 
 -- the order of the lawful codes by a relation: it holds between lawful codes alone
-abbrev pub among : (ℕ → Bool) → (ℕ → ℕ → Bool) → Order
-among lawful above = record { lawful = lawful; dominates = λ a b. (lawful a && lawful b) && above a b }
+abbrev pub among-lawful : (ℕ → Bool) → (ℕ → ℕ → Bool) → Order
+among-lawful lawful above = record { lawful = lawful; dominates = λ a b. (lawful a && lawful b) && above a b }
 
 -- the numbers of steps that a ladder may have
 abbrev pub IsHeight : ℕ → Type 0
@@ -29,7 +29,7 @@ IsHeight n = (1 ≤ n) × (n ≤ 256)
 
 -- the ladder of n steps: codes 0 to n - 1, by the order of numbers
 abbrev pub ladder : ℕ → Order
-ladder n = among (λ c. ltb c n) (λ a b. leb b a)
+ladder n = among-lawful (λ c. ltb c n) (λ a b. leb b a)
 
 -- in compartments, a code is level × 65,536 + set
 abbrev pub level : ℕ → ℕ
@@ -50,4 +50,4 @@ contains a b = each-below (λ k. not (has b k) || has a k) 16
 
 -- compartments: levels 0 to 255, by the order of levels and the containment of sets, both
 abbrev pub compartments : Order
-compartments = among (λ c. ltb (level c) 256) (λ a b. leb (level b) (level a) && contains a b)
+compartments = among-lawful (λ c. ltb (level c) 256) (λ a b. leb (level b) (level a) && contains a b)

@@ -15,9 +15,9 @@ use Rattle.policy.specs.declared.words.Verdict.{Verdict}
 use Rattle.policy.specs.declared.words.Verdict.the-variants.{Yes}
 
 -- the request of this number is among these
-abbrev pub among : ℕ → List Request → Bool
-among n [] = false
-among n (request ∷ more) = eqb n (request-number request) || among n more
+abbrev pub is-one-of : ℕ → List Request → Bool
+is-one-of n [] = false
+is-one-of n (request ∷ more) = eqb n (request-number request) || is-one-of n more
 
 -- the request and kind of these numbers are this request on a directory
 abbrev pub on-directory : Request → ℕ → ℕ → Bool
@@ -26,11 +26,11 @@ on-directory request n k = eqb n (request-number request) && eqb k (kind-number 
 -- by numbers: who enters learns, through its process, of all that the label asked for covers
 abbrev pub learning : ℕ → ℕ → Bool
 learning n k =
-    among n (Alter ∷ Execute ∷ GetPermissionsData ∷ GetStatusData ∷ ReadWriteOpen ∷ ReadOpen ∷ Search ∷ Enter ∷ []) || on-directory Read n k
+    is-one-of n (Alter ∷ Execute ∷ GetPermissionsData ∷ GetStatusData ∷ ReadWriteOpen ∷ ReadOpen ∷ Search ∷ Enter ∷ []) || on-directory Read n k
 
 abbrev pub changing : ℕ → ℕ → Bool
 changing n k =
-    among n (Alter ∷ ChangeOwner ∷ Create ∷ Delete ∷ DeleteData ∷ ModifyAccessData ∷ ModifyPermissionsData ∷ ReadWriteOpen ∷ SendSignal ∷ WriteOpen ∷ [])
+    is-one-of n (Alter ∷ ChangeOwner ∷ Create ∷ Delete ∷ DeleteData ∷ ModifyAccessData ∷ ModifyPermissionsData ∷ ReadWriteOpen ∷ SendSignal ∷ WriteOpen ∷ [])
     || on-directory Write n k
 
 abbrev pub learns : Request → Kind → Bool

@@ -1,7 +1,7 @@
 -- The rows of a table in the order in which they are printed.
 use mathlib.Core.Path.{_≡_}
 use mathlib.Core.Bool.{Bool, true, false, not, _&&_, _||_}
-use mathlib.Core.List.{List, [], _∷_, _++_}
+use mathlib.Core.List.{List, [], _∷_, flatMap}
 use Prim.Native.Nat.{ℕ, _+_}
 use lib.ListN.{length}
 use Rattle.std.specs.declared.option.Option.{Option}
@@ -13,11 +13,6 @@ use Rattle.policies.specs.declared.label_table.Condition.{Condition}
 use Rattle.policies.specs.declared.label_table.Row.{Row}
 use Rattle.policies.specs.LabelTable.{rows, access-rows, stands-at, condition-in}
 
--- for each element, what it stands for
-abbrev pub each : {A B : Type 0} → (A → List B) → List A → List B
-each f [] = []
-each f (x ∷ xs) = f x ++ each f xs
-
 abbrev pub as-row : Request → Kind → Option Condition → List Row
 as-row request kind None = []
 as-row request kind (Some condition) = record { request = request; kind = kind; condition = condition } ∷ []
@@ -26,11 +21,11 @@ abbrev pub row-at : List Row → Request → Kind → List Row
 row-at table request kind = as-row request kind (condition-in table request kind)
 
 abbrev pub rows-of : List Row → Request → List Row
-rows-of table request = each (row-at table request) kinds
+rows-of table request = flatMap (row-at table request) kinds
 
 -- by request, and the rows of one request by kind
-unfoldable pub in-order : List Row → List Row
-in-order table = each (rows-of table) requests
+abbrev pub in-order : List Row → List Row
+in-order table = flatMap (rows-of table) requests
 
 abbrev any : (Row → Bool) → List Row → Bool
 any test [] = false

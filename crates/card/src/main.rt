@@ -1,0 +1,95 @@
+//! The field engineer's card: the label table, counted and then printed row by row, and what it says of a few tries.
+mod tries;
+mod words;
+
+use labels::ladder::Ladder;
+use labels::ladder::LadderOrder;
+use policies::label_listing::label_rows;
+use policies::label_policy::label_verdict;
+use policies::label_table::Row;
+use std::error::AnyError;
+use tries::TRIES;
+use tries::Try;
+use words::condition_words;
+use words::kind_name;
+use words::request_name;
+use words::verdict_name;
+
+const STEPS: u64 = 4;
+
+fn main(rt: LibcRuntime) -> Result<(), AnyError> {
+    rt.report(print_card(&rt))
+}
+
+fn print_card(rt: &LibcRuntime) -> Result<(), AnyError> {
+    print_table(rt)?;
+    println!(rt)?;
+    print_tries(rt)
+}
+
+fn print_table(rt: &LibcRuntime) -> Result<(), AnyError> {
+    let rows = label_rows(rt.alloc())?;
+    let count = rows.len();
+    println!(
+        rt,
+        "Label table: {count} rows, the one for entering among them"
+    )?;
+    println!(
+        rt,
+        "{:>3}  {:<26}  {:<11}  {}",
+        "row", "request", "kind", "needs"
+    )?;
+    for (i, row) in rows.iter().enumerate() {
+        print_row(rt, i, row)?;
+    }
+    Ok(())
+}
+
+fn print_row(rt: &LibcRuntime, i: usize, row: &Row) -> Result<(), AnyError> {
+    let place = i.saturating_add(1);
+    let request = row.request.number();
+    let request_name = request_name(row.request);
+    let kind = row.kind.number();
+    let kind_name = kind_name(row.kind);
+    let needs = condition_words(row);
+    println!(
+        rt,
+        "{place:>3}  {request:>2} {request_name:<23}  {kind} {kind_name:<9}  {needs}"
+    )?;
+    Ok(())
+}
+
+fn print_tries(rt: &LibcRuntime) -> Result<(), AnyError> {
+    let Some(ladder) = Ladder::new(STEPS) else {
+        return Err("a ladder has 1 to 256 steps".into());
+    };
+    let top = STEPS - 1;
+    println!(rt, "Tries on a ladder of {STEPS} steps, labels 0 to {top}")?;
+    println!(
+        rt,
+        "{:>7}  {:>6}  {:<26}  {:<11}  {:<11}  {}",
+        "process", "object", "request", "kind", "verdict", "what is tried"
+    )?;
+    for t in TRIES {
+        print_try(rt, &ladder, &t)?;
+    }
+    Ok(())
+}
+
+fn print_try(rt: &LibcRuntime, ladder: &Ladder, t: &Try) -> Result<(), AnyError> {
+    let verdict = label_verdict(ladder, t.request, t.kind, t.process, t.object);
+    let process = t.process;
+    let object = t.object;
+    let request = t.request.number();
+    let request_name = request_name(t.request);
+    let kind = t.kind.number();
+    let kind_name = kind_name(t.kind);
+    let number = verdict.number();
+    let name = verdict_name(verdict);
+    let what = t.what;
+    println!(
+        rt,
+        "{process:>7}  {object:>6}  {request:>2} {request_name:<23}  {kind} {kind_name:<9}  {number} {name:<9}  {what}"
+    )?;
+    Ok(())
+}
