@@ -1,9 +1,6 @@
 //! The label table: what each request on each kind of object needs of the two labels.
 ghost use mathlib.Core.Path.{_≡_};
 ghost use Rattle.policies.specs.LabelTable.{rows, laid-out, condition-in};
-use self::Condition::Dominates;
-use self::Condition::Equal;
-use self::Condition::Free;
 use policy::words::Kind;
 use policy::words::Request;
 
@@ -26,41 +23,41 @@ pub struct Row {
     pub condition: Condition,
 }
 
-const NO: Option<Condition> = None;
+const NONE: Option<Condition> = None;
 
-const FREE: Option<Condition> = Some(Free);
+const FREE: Option<Condition> = Some(Condition::Free);
 
-const EQ: Option<Condition> = Some(Equal);
+const SAME: Option<Condition> = Some(Condition::Equal);
 
-const GE: Option<Condition> = Some(Dominates);
+const OVER: Option<Condition> = Some(Condition::Dominates);
 
-// A line for each request from alias to enter; in it no object, file, directory, ipc, control data.
+// A line for each request, by number; in it a place for each kind: no object, file, directory, ipc, control data.
 const CONDITIONS: [[Option<Condition>; 5]; 25] = [
-    [NO, NO, NO, NO, NO],
-    [NO, NO, NO, EQ, NO],
-    [NO, NO, NO, NO, EQ],
-    [NO, NO, NO, NO, NO],
-    [FREE, NO, NO, NO, NO],
-    [NO, EQ, EQ, EQ, EQ],
-    [NO, EQ, EQ, EQ, EQ],
-    [NO, EQ, NO, NO, NO],
-    [NO, GE, NO, NO, NO],
-    [NO, NO, NO, NO, GE],
-    [NO, NO, NO, NO, GE],
-    [NO, NO, NO, NO, EQ],
-    [NO, NO, NO, NO, NO],
-    [NO, NO, NO, NO, EQ],
-    [NO, FREE, GE, FREE, NO],
-    [NO, NO, NO, NO, NO],
-    [NO, EQ, NO, EQ, NO],
-    [NO, GE, NO, NO, NO],
-    [NO, NO, GE, NO, NO],
-    [EQ, NO, NO, NO, NO],
-    [NO, NO, NO, NO, NO],
-    [NO, NO, NO, NO, NO],
-    [NO, FREE, EQ, FREE, NO],
-    [NO, EQ, NO, NO, NO],
-    [GE, NO, NO, NO, NO],
+    [NONE, NONE, NONE, NONE, NONE], // alias
+    [NONE, NONE, NONE, SAME, NONE], // alter
+    [NONE, NONE, NONE, NONE, SAME], // change-owner
+    [NONE, NONE, NONE, NONE, NONE], // change-role
+    [FREE, NONE, NONE, NONE, NONE], // clone
+    [NONE, SAME, SAME, SAME, SAME], // create
+    [NONE, SAME, SAME, SAME, SAME], // delete
+    [NONE, SAME, NONE, NONE, NONE], // delete-data
+    [NONE, OVER, NONE, NONE, NONE], // execute
+    [NONE, NONE, NONE, NONE, OVER], // get-permissions-data
+    [NONE, NONE, NONE, NONE, OVER], // get-status-data
+    [NONE, NONE, NONE, NONE, SAME], // modify-access-data
+    [NONE, NONE, NONE, NONE, NONE], // modify-attribute
+    [NONE, NONE, NONE, NONE, SAME], // modify-permissions-data
+    [NONE, FREE, OVER, FREE, NONE], // read
+    [NONE, NONE, NONE, NONE, NONE], // read-attribute
+    [NONE, SAME, NONE, SAME, NONE], // read&write-open
+    [NONE, OVER, NONE, NONE, NONE], // read-open
+    [NONE, NONE, OVER, NONE, NONE], // search
+    [SAME, NONE, NONE, NONE, NONE], // send-signal
+    [NONE, NONE, NONE, NONE, NONE], // terminate
+    [NONE, NONE, NONE, NONE, NONE], // trace
+    [NONE, FREE, SAME, FREE, NONE], // write
+    [NONE, SAME, NONE, NONE, NONE], // write-open
+    [OVER, NONE, NONE, NONE, NONE], // enter
 ];
 
 /// The table, which is the one that the rows give: all 125 places are computed and compared.
