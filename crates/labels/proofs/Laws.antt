@@ -6,7 +6,7 @@ use Prim.Native.Nat.{ℕ, _%_, _≤_}
 use native.Mathlib.Omega.{arith}
 use lib.Dec.{leb}
 use Rattle.std.proofs.shelf.Tests.{and-parts, and-from, leb-true, le-leb}
-use Rattle.labels.specs.Orders.{Order, OrderLaws, among-lawful, level, contains, compartments}
+use Rattle.labels.specs.Orders.{OrderLaws, among-lawful, level, contains, compartments}
 use Rattle.labels.proofs.Sets.{Contains, contains-decides, same-set}
 
 -- an order among lawful codes has the laws if its relation is reflexive, antisymmetric and transitive

@@ -1,7 +1,7 @@
 -- Sets of members as binary digits: what containment says, and that one masked comparison decides it.
 -- Assumes nothing.
 use mathlib.Core.Path.{_≡_, refl, sym, ap, ap₂, _∙_}
-use mathlib.Core.Logic.{_⊎_, inl, inr, ⊎-elim}
+use mathlib.Core.Logic.{⊎-elim}
 use mathlib.Core.Bool.{Bool, true, false, not, _||_}
 use Prim.Native.Nat.{ℕ, zero, suc, _+_, _*_, _/_, _%_, _^_, _<_}
 use native.Mathlib.Numerals.{one-add}
@@ -36,6 +36,12 @@ contains-decides a b =
 split : (n x : ℕ) → x % 2 ^ suc n ≡ digit x n * 2 ^ n + x % 2 ^ n
 split n x = ap (λ m. x % 2 ^ m) (sym (one-add n)) ∙ mod-pow-add x 1 n
 
+split-top : (n x : ℕ) → (x % 2 ^ suc n) / 2 ^ n ≡ digit x n
+split-top n x = ap (λ z. z / 2 ^ n) (split n x) ∙ div-mul-add (digit x n) (2 ^ n) (x % 2 ^ n) (mod-below x (2 ^ n) (pow-pos n))
+
+split-rest : (n x : ℕ) → (x % 2 ^ suc n) % 2 ^ n ≡ x % 2 ^ n
+split-rest n x = ap (λ z. z % 2 ^ n) (split n x) ∙ mod-mul-add (digit x n) (2 ^ n) (x % 2 ^ n) (mod-below x (2 ^ n) (pow-pos n))
+
 -- numbers with equal digits below n agree in the last n, and the other way round
 low-digits : (n x y : ℕ) → ((k : ℕ) → k < n → digit x k ≡ digit y k) → x % 2 ^ n ≡ y % 2 ^ n
 low-digits zero x y h = omega arith
@@ -47,12 +53,10 @@ low-digits (suc n) x y h =
 digits-low : (n x y : ℕ) → x % 2 ^ n ≡ y % 2 ^ n → (k : ℕ) → k < n → digit x k ≡ digit y k
 digits-low zero x y h k lt = absurd (omega arith)
 digits-low (suc n) x y h k lt =
-    let e : digit x n * 2 ^ n + x % 2 ^ n ≡ digit y n * 2 ^ n + y % 2 ^ n = sym (split n x) ∙ h ∙ split n y in
-    let bx = mod-below x (2 ^ n) (pow-pos n) in
-    let by = mod-below y (2 ^ n) (pow-pos n) in
-    let top : digit x n ≡ digit y n = sym (div-mul-add (digit x n) (2 ^ n) (x % 2 ^ n) bx) ∙ ap (λ z. z / 2 ^ n) e ∙ div-mul-add (digit y n) (2 ^ n) (y % 2 ^ n) by in
-    let rest : x % 2 ^ n ≡ y % 2 ^ n = sym (mod-mul-add (digit x n) (2 ^ n) (x % 2 ^ n) bx) ∙ ap (λ z. z % 2 ^ n) e ∙ mod-mul-add (digit y n) (2 ^ n) (y % 2 ^ n) by in
-    ⊎-elim (λ same. ap (digit x) same ∙ top ∙ sym (ap (digit y) same)) (λ other. digits-low n x y rest k (omega arith)) (cases-eq k n)
+    ⊎-elim
+    (λ same. ap (digit x) same ∙ sym (split-top n x) ∙ ap (λ z. z / 2 ^ n) h ∙ split-top n y ∙ sym (ap (digit y) same))
+    (λ other. digits-low n x y (sym (split-rest n x) ∙ ap (λ z. z % 2 ^ n) h ∙ split-rest n y) k (omega arith))
+    (cases-eq k n)
 
 digit-and : (a b k : ℕ) → digit (bitAnd a b) k ≡ bitAnd (digit a k) (digit b k)
 digit-and a b k = ap (λ z. z % 2) (and-shr a b k) ∙ and-mod (a / 2 ^ k) (b / 2 ^ k) 1
