@@ -7,6 +7,8 @@ use labels::ladder::LadderOrder;
 use policies::label_listing::label_rows;
 use policies::label_policy::label_verdict;
 use policies::label_table::Row;
+use policy::words::Kind;
+use policy::words::Request;
 use std::error::AnyError;
 use tries::TRIES;
 use tries::Try;
@@ -15,7 +17,13 @@ use words::kind_name;
 use words::request_name;
 use words::verdict_name;
 
+/// The steps of the ladder that the table is tried on.
 const STEPS: u64 = 4;
+
+const ROW_HEADS: &str = "row  request                     kind         needs";
+
+const TRY_HEADS: &str =
+    "process  object  request                     kind         verdict      what is tried";
 
 fn main(rt: LibcRuntime) -> Result<(), AnyError> {
     rt.report(print_card(&rt))
@@ -34,11 +42,7 @@ fn print_table(rt: &LibcRuntime) -> Result<(), AnyError> {
         rt,
         "Label table: {count} rows, the one for entering among them"
     )?;
-    println!(
-        rt,
-        "{:>3}  {:<26}  {:<11}  {}",
-        "row", "request", "kind", "needs"
-    )?;
+    println!(rt, "{ROW_HEADS}")?;
     for (i, row) in rows.iter().enumerate() {
         print_row(rt, i, row)?;
     }
@@ -47,15 +51,21 @@ fn print_table(rt: &LibcRuntime) -> Result<(), AnyError> {
 
 fn print_row(rt: &LibcRuntime, i: usize, row: &Row) -> Result<(), AnyError> {
     let place = i.saturating_add(1);
-    let request = row.request.number();
-    let request_name = request_name(row.request);
-    let kind = row.kind.number();
-    let kind_name = kind_name(row.kind);
     let needs = condition_words(row);
-    println!(
-        rt,
-        "{place:>3}  {request:>2} {request_name:<23}  {kind} {kind_name:<9}  {needs}"
-    )?;
+    print!(rt, "{place:>3}  ")?;
+    print_place(rt, row.request, row.kind)?;
+    println!(rt, "{needs}")?;
+    Ok(())
+}
+
+/// The columns of a request and a kind.
+fn print_place(rt: &LibcRuntime, request: Request, kind: Kind) -> Result<(), AnyError> {
+    let request_number = request.number();
+    let request_name = request_name(request);
+    let kind_number = kind.number();
+    let kind_name = kind_name(kind);
+    print!(rt, "{request_number:>2} {request_name:<23}  ")?;
+    print!(rt, "{kind_number} {kind_name:<9}  ")?;
     Ok(())
 }
 
@@ -65,11 +75,7 @@ fn print_tries(rt: &LibcRuntime) -> Result<(), AnyError> {
     };
     let top = STEPS - 1;
     println!(rt, "Tries on a ladder of {STEPS} steps, labels 0 to {top}")?;
-    println!(
-        rt,
-        "{:>7}  {:>6}  {:<26}  {:<11}  {:<11}  {}",
-        "process", "object", "request", "kind", "verdict", "what is tried"
-    )?;
+    println!(rt, "{TRY_HEADS}")?;
     for t in TRIES {
         print_try(rt, &ladder, &t)?;
     }
@@ -80,16 +86,11 @@ fn print_try(rt: &LibcRuntime, ladder: &Ladder, t: &Try) -> Result<(), AnyError>
     let verdict = label_verdict(ladder, t.request, t.kind, t.process, t.object);
     let process = t.process;
     let object = t.object;
-    let request = t.request.number();
-    let request_name = request_name(t.request);
-    let kind = t.kind.number();
-    let kind_name = kind_name(t.kind);
     let number = verdict.number();
     let name = verdict_name(verdict);
     let what = t.what;
-    println!(
-        rt,
-        "{process:>7}  {object:>6}  {request:>2} {request_name:<23}  {kind} {kind_name:<9}  {number} {name:<9}  {what}"
-    )?;
+    print!(rt, "{process:>7}  {object:>6}  ")?;
+    print_place(rt, t.request, t.kind)?;
+    println!(rt, "{number} {name:<9}  {what}")?;
     Ok(())
 }
