@@ -2,3 +2,5 @@
 pub mod compartments;
 pub mod ladder;
 pub mod order;
+#[cfg(test)]
+mod tests;
