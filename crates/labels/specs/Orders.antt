@@ -35,7 +35,7 @@ ladder n = among-lawful (λ c. ltb c n) (λ a b. leb b a)
 abbrev pub level : ℕ → ℕ
 level c = c / 65536
 
--- member k, of 0 to 15, is in a code's set
+-- member k, of 0 to 15, is in a code's set: binary digit k of the code is 1
 abbrev pub has : ℕ → ℕ → Bool
 has c k = eqb (c / 2 ^ k % 2) 1
 

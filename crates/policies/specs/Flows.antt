@@ -23,11 +23,12 @@ is-one-of n (request ∷ more) = eqb n (request-number request) || is-one-of n m
 abbrev pub on-directory : Request → ℕ → ℕ → Bool
 on-directory request n k = eqb n (request-number request) && eqb k (kind-number Directory)
 
--- by numbers: who enters learns, through its process, of all that the label asked for covers
+-- by their numbers: the request on the kind lets a process learn; who enters learns of all that the label asked for covers
 abbrev pub learning : ℕ → ℕ → Bool
 learning n k =
     is-one-of n (Alter ∷ Execute ∷ GetPermissionsData ∷ GetStatusData ∷ ReadWriteOpen ∷ ReadOpen ∷ Search ∷ Enter ∷ []) || on-directory Read n k
 
+-- and lets it change an object
 abbrev pub changing : ℕ → ℕ → Bool
 changing n k =
     is-one-of n (Alter ∷ ChangeOwner ∷ Create ∷ Delete ∷ DeleteData ∷ ModifyAccessData ∷ ModifyPermissionsData ∷ ReadWriteOpen ∷ SendSignal ∷ WriteOpen ∷ [])

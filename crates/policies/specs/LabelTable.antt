@@ -19,6 +19,7 @@ use Rattle.policies.specs.declared.label_table.Row.{Row}
 abbrev needing : Kind → Condition → List Request → List Row
 needing kind condition requests = map (λ request. record { request = request; kind = kind; condition = condition }) requests
 
+-- the rows for access
 abbrev pub access-rows : List Row
 access-rows =
     needing File Equal (Create ∷ Delete ∷ DeleteData ∷ ReadWriteOpen ∷ WriteOpen ∷ [])
@@ -33,17 +34,18 @@ access-rows =
     ++ needing NoObject Free (Clone ∷ [])
     ++ needing NoObject Equal (SendSignal ∷ [])
 
--- the process's label is the user's approval here, the object's is the label asked for
+-- and the one for entering: here the process's label is the user's approval, the object's is the label asked for
 abbrev pub enter-rows : List Row
 enter-rows = needing NoObject Dominates (Enter ∷ [])
 
 abbrev pub rows : List Row
 rows = access-rows ++ enter-rows
 
+-- the row is that of the request and the kind with these numbers
 abbrev pub stands-at : ℕ → ℕ → Row → Bool
 stands-at request kind row = eqb (request-number (row .request)) request && eqb (kind-number (row .kind)) kind
 
--- the condition of the row at a request and a kind, by their numbers
+-- the condition of the row at a request and a kind, by their numbers; none where no row stands there
 abbrev pub found : List Row → ℕ → ℕ → Option Condition
 found [] request kind = None
 found (row ∷ more) request kind = cond (stands-at request kind row) (Some (row .condition)) (found more request kind)

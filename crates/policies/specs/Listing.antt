@@ -13,6 +13,7 @@ use Rattle.policies.specs.declared.label_table.Condition.{Condition}
 use Rattle.policies.specs.declared.label_table.Row.{Row}
 use Rattle.policies.specs.LabelTable.{rows, access-rows, stands-at, condition-in}
 
+-- a condition that was found, as a row
 abbrev pub as-row : Request → Kind → Option Condition → List Row
 as-row request kind None = []
 as-row request kind (Some condition) = record { request = request; kind = kind; condition = condition } ∷ []
