@@ -50,9 +50,9 @@ fn print_table(rt: &LibcRuntime) -> Result<(), AnyError> {
 }
 
 fn print_row(rt: &LibcRuntime, i: usize, row: &Row) -> Result<(), AnyError> {
-    let place = i.saturating_add(1);
+    let number = i.saturating_add(1);
     let needs = condition_words(row);
-    print!(rt, "{place:>3}  ")?;
+    print!(rt, "{number:>3}  ")?;
     print_place(rt, row.request, row.kind)?;
     println!(rt, "{needs}")?;
     Ok(())

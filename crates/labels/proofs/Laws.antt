@@ -1,5 +1,4 @@
 -- The laws of compartments.
--- Assumes nothing.
 use mathlib.Core.Path.{_≡_}
 use mathlib.Core.Bool.{Bool, true, _&&_}
 use Prim.Native.Nat.{ℕ, _%_, _≤_}

@@ -1,5 +1,4 @@
 -- Sets of members as binary digits: what containment says, and that one masked comparison decides it.
--- Assumes nothing.
 use mathlib.Core.Path.{_≡_, refl, sym, ap, ap₂, _∙_}
 use mathlib.Core.Logic.{⊎-elim}
 use mathlib.Core.Bool.{Bool, true, false, not, _||_}

@@ -16,7 +16,7 @@ pub record OrderLaws (o : Order) : Type 0 where
   pub reflexive : (a : ℕ) → o .lawful a ≡ true → o .dominates a a ≡ true
   -- two that dominate each other are equal
   pub antisymmetric : (a b : ℕ) → o .dominates a b ≡ true → o .dominates b a ≡ true → a ≡ b
-  -- what dominates a dominating code dominates what that one does
+  -- dominance is transitive
   pub transitive : (a b c : ℕ) → o .dominates a b ≡ true → o .dominates b c ≡ true → o .dominates a c ≡ true
 
 -- the order of the lawful codes by a relation: it holds between lawful codes alone

@@ -1,4 +1,4 @@
--- A loop that adds what each element of a list stands for; and what the printed list has, which antt computes.
+-- A loop that adds what each element of a list stands for; and what the printed list has, which the checker computes.
 use mathlib.Core.Path.{_≡_, refl, sym, ap, _∙_}
 use mathlib.Core.List.{List, _++_, append-assoc, append-nil, flatMap}
 use Prim.Native.Nat.{ℕ, _+_, _<_, _≤_}
@@ -26,6 +26,7 @@ pub ended : {A B : Type 0} (f : A → List B) (xs : List A) (i : ℕ) (done whol
 unfolding flatMap
 ended f xs i done whole le inv = sym (ap (λ l. done ++ flatMap f l) (drop-all i xs le) ∙ append-nil done) ∙ inv
 
+-- its count and that no two rows share a place are computed
 pub listed : (list : List Row) → list ≡ in-order rows → Listed list
 unfolding flatMap condition-in
 listed list is = record { rows-in-order = is; access-count = refl; count = ap length is; apart = refl }
