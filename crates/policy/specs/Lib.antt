@@ -1,1 +1,4 @@
 pub mod Words
+pub mod Refusals
+pub mod Places
+pub mod Leaves

@@ -1,7 +1,7 @@
 //! The words of a question to a policy and of its answer, each with its number.
 ghost use mathlib.Core.Path.{_≡_};
 ghost use Prim.Native.Nat.{_≤_};
-ghost use Rattle.policy.specs.Words.{request-number, kind-number, verdict-number, yes-or-no};
+ghost use Rattle.policy.specs.Words.{request-number, kind-number, verdict-number, yes-or-no, grants};
 
 /// What a process asks for, numbered from 1.
 #[derive(Clone, Copy)]
@@ -34,13 +34,59 @@ pub enum Request {
 }
 
 /// What the request is made on: no object, an object of a kind, or an object's control data (scd).
-#[derive(Clone, Copy)]
+#[derive(Clone, Copy, PartialEq, Eq)]
 pub enum Kind {
     NoObject,
     File,
     Directory,
     Ipc,
     ControlData,
+}
+
+/// What a user is to the machine.
+#[derive(Clone, Copy)]
+pub enum SystemRole {
+    User,
+    SecurityOfficer,
+    Administrator,
+}
+
+/// What a user is to the constrained items: who runs or who manages transformation procedures (TP) or verification
+/// procedures (IVP), or neither.
+#[derive(Clone, Copy, PartialEq, Eq)]
+pub enum IntegrityRole {
+    Nil,
+    TpUser,
+    TpManager,
+    IvpUser,
+    IvpManager,
+}
+
+/// The type of a program, and of a process by the program that it runs: none, a transformation procedure, a
+/// verification procedure, or a procedure on integrity-control data.
+#[derive(Clone, Copy, PartialEq, Eq)]
+pub enum ProgramType {
+    Nil,
+    Tp,
+    Ivp,
+    Tpicd,
+}
+
+/// Whom an object is for.
+#[derive(Clone, Copy)]
+pub enum Category {
+    General,
+    Security,
+    System,
+}
+
+/// The type of an object's data: none, a constrained item, integrity-control data, or security information.
+#[derive(Clone, Copy, PartialEq, Eq)]
+pub enum DataType {
+    Nil,
+    Cdi,
+    Cdiic,
+    Si,
 }
 
 /// What a policy says: it does not care, it consents, it denies, or it has no rule for such a question.
@@ -116,6 +162,16 @@ impl Verdict {
         ensures { λ r. ⌜ r ≡ yes-or-no holds ⌝ }
     {
         if holds { Verdict::Yes } else { Verdict::No }
+    }
+
+    /// Whether a request with this verdict is granted: who does not care does not stand in the way.
+    pub fn grants(self) -> bool
+        ensures { λ r. ⌜ r ≡ grants self ⌝ }
+    {
+        match self {
+            Verdict::DontCare | Verdict::Yes => true,
+            Verdict::No | Verdict::Undefined => false,
+        }
     }
 
     /// Its number, 0 to 3.
