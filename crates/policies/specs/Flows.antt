@@ -1,23 +1,19 @@
 -- Which requests let a process learn of an object and which let it change one, and what the labels then owe.
 -- Reading and writing an open file or ipc object are neither: the labels were compared when it was opened.
 use mathlib.Core.Path.{_≡_}
-use mathlib.Core.Bool.{Bool, true, false, _&&_, _||_}
-use mathlib.Core.List.{List, [], _∷_}
+use mathlib.Core.Bool.{Bool, true, _&&_, _||_}
+use mathlib.Core.List.{[], _∷_}
 use Prim.Native.Nat.{ℕ}
 use lib.Dec.{eqb}
 use Rattle.labels.specs.Orders.{Order}
 use Rattle.policy.specs.Words.{request-number, kind-number}
+use Rattle.policy.specs.Records.{is-one-of}
 use Rattle.policy.specs.declared.words.Request.{Request}
 use Rattle.policy.specs.declared.words.Request.the-variants.{Alter, ChangeOwner, Create, Delete, DeleteData, Execute, GetPermissionsData, GetStatusData, ModifyAccessData, ModifyPermissionsData, Read, ReadWriteOpen, ReadOpen, Search, SendSignal, Write, WriteOpen, Enter}
 use Rattle.policy.specs.declared.words.Kind.{Kind}
 use Rattle.policy.specs.declared.words.Kind.the-variants.{Directory}
 use Rattle.policy.specs.declared.words.Verdict.{Verdict}
 use Rattle.policy.specs.declared.words.Verdict.the-variants.{Yes}
-
--- the request of this number is among these
-abbrev pub is-one-of : ℕ → List Request → Bool
-is-one-of n [] = false
-is-one-of n (request ∷ more) = eqb n (request-number request) || is-one-of n more
 
 -- the request and kind of these numbers are this request on a directory
 abbrev pub on-directory : Request → ℕ → ℕ → Bool

@@ -14,7 +14,8 @@ use Rattle.policy.specs.declared.words.Verdict.the-variants.{Yes, Undefined}
 use Rattle.policies.specs.declared.label_table.Condition.{Condition}
 use Rattle.policies.specs.declared.label_table.Condition.the-variants.{Free, Equal, Dominates}
 use Rattle.policies.specs.declared.label_table.Row.{Row}
-use Rattle.policies.specs.LabelTable.{condition-in}
+use Rattle.policy.specs.Leaves.{Leaf, steady}
+use Rattle.policies.specs.LabelTable.{rows, condition-in}
 
 -- two lawful labels are compared; there is no verdict where either is unlawful
 abbrev pub compared : Order → ℕ → ℕ → Bool → Verdict
@@ -30,3 +31,7 @@ ruled order (Some Dominates) process object = compared order process object (ord
 -- what a table of rows says of a request on a kind of object
 abbrev pub label-verdict : List Row → Order → Request → Kind → ℕ → ℕ → Verdict
 label-verdict table order request kind process object = ruled order (condition-in table request kind) process object
+
+-- the label policy over an order: it goes by the request, the kind and the two labels, and by nothing that was noted
+abbrev pub label-leaf : Order → Leaf
+label-leaf order = steady 1 (λ q. label-verdict rows order (q .request) (q .target .kind) (q .subject .label) (q .target .label))

@@ -2,3 +2,4 @@ pub mod LabelTable
 pub mod LabelPolicy
 pub mod Flows
 pub mod Listing
+pub mod Roles

@@ -1,14 +1,40 @@
 //! The label policy: mandatory labels, over any label order.
 ghost use mathlib.Core.Path.{_≡_};
+ghost use mathlib.Core.List.{[], _∷_};
 ghost use Rattle.policies.specs.LabelTable.{rows};
-ghost use Rattle.policies.specs.LabelPolicy.{ruled, label-verdict};
+ghost use Rattle.policies.specs.LabelPolicy.{ruled, label-verdict, label-leaf};
 ghost use Rattle.policies.specs.Flows.{LearnerDominates, ChangedDominates};
 use crate::label_table::Condition;
 use crate::label_table::condition_of;
 use labels::order::LabelOrder;
+use policy::interface::Policy;
+use policy::record::Record;
 use policy::words::Kind;
 use policy::words::Request;
 use policy::words::Verdict;
+
+/// The label policy over an order.
+#[derive(Drop)]
+pub struct MandatoryLabels<O> {
+    pub order: O,
+}
+
+pub impl<O: LabelOrder> Policy for MandatoryLabels<O> as MandatoryLabelsPolicy {
+    ghost leaves = { λ s. label-leaf (O·LabelOrder .meaning (s .order)) ∷ [] };
+
+    fn judge(&self, access: &Record) -> (Verdict, u8) {
+        let verdict = label_verdict(
+            &self.order,
+            access.request,
+            access.target.kind,
+            access.subject.label,
+            access.target.label,
+        );
+        verdict.by(1)
+    }
+
+    fn note(&mut self, _access: &Record) {}
+}
 
 /// What the label policy says of a request by a process with one label on an object with another.
 /// Where it says YES, whoever learns dominates what it learns of, and what is changed dominates whoever changes it.

@@ -2,3 +2,4 @@ pub mod Words
 pub mod Refusals
 pub mod Places
 pub mod Leaves
+pub mod Records
