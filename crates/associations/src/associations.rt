@@ -1,7 +1,7 @@
 //! The table of associations: 32 rows and 128 cells, each set once or never.
 ghost use mathlib.Core.Path.{_≡_};
 ghost use Rattle.policy.specs.Refusals.{Added};
-ghost use Rattle.associations.specs.Associations.{none-set, goes-up, stands, added-cell, added-row, row-at, on-chain, cell-at, row-lists};
+ghost use Rattle.associations.specs.Associations.{none-set, goes-up, stands, added-cell, added-row, cell-at, row-lists};
 use crate::rows::Cell;
 use crate::rows::Row;
 use policy::place::Place;
@@ -75,11 +75,11 @@ impl Associations {
         Ok(())
     }
 
-    /// The row at a place, if it is set.
-    pub fn row(&self, place: Place<32>) -> Option<Row>
-        ensures { λ r. ⌜ r ≡ row-at (now (self .entry) .rows) (place .index) ⌝ }
+    /// The rows, by place.
+    pub fn rows(&self) -> &[Option<Row>; 32]
+        ensures { λ r. ⌜ now r ≡ now (self .entry) .rows ⌝ }
     {
-        self.rows[place.index as usize]
+        &self.rows
     }
 
     /// Whether the row lists the item: its chain is walked, of which no cell can come twice.

@@ -14,7 +14,7 @@ use Rattle.policy.specs.declared.refusal.Refusal.{Refusal}
 use Rattle.policy.specs.declared.refusal.Refusal.the-variants.{OutOfRange}
 use Rattle.policy.specs.Places.{if-inside, placed}
 
-abbrev at : (N index : ℕ) → index < N → Place N
+abbrev pub at : (N index : ℕ) → index < N → Place N
 at N index h = record { index = index; within = h }
 
 -- two places with one index are the same

@@ -1,0 +1,3 @@
+pub mod RowSets
+pub mod Triples
+pub mod Kept
