@@ -1,3 +1,4 @@
 pub mod Bits
 pub mod Passes
 pub mod Charted
+pub mod Narrowing

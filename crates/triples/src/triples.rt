@@ -1,10 +1,10 @@
 //! The triples policy: it remembers for each seat which rows may still cover what its procedure was given.
 ghost use Prim.Native.Nat.{ℕ, _<_};
 ghost use mathlib.Core.Path.{_≡_};
-ghost use mathlib.Core.Bool.{_&&_};
+ghost use mathlib.Core.Bool.{_&&_, _||_};
 ghost use mathlib.Core.List.{[], _∷_};
-ghost use lib.ListN.{getD};
-ghost use Rattle.std.specs.declared.option.Option.the-variants.{None};
+ghost use Rattle.policy.specs.declared.words.DataType.the-variants.{Cdi, Cdiic};
+ghost use Rattle.policy.specs.Records.{content-is};
 ghost use Rattle.associations.specs.Associations.{row-at};
 ghost use Rattle.triples.specs.RowSets.{has};
 ghost use Rattle.triples.specs.Triples.{chart-of, row-assigned, row-has, no-candidates, triples-leaf, is-of, lists-object, candidate-after, manage-verdict, give-away-verdict, execute-verdict, open-verdict, triples-verdict};
@@ -70,6 +70,119 @@ impl Triples {
             Some(procedure) => rows_assigned(&self.rows, access.subject.owner, procedure),
             None => RowSet::none(),
         }
+    }
+
+    /// The candidates of the record's seat that list its object.
+    fn candidates_listing(&self, access: &Record) -> RowSet
+        ensures { λ r. ⌜ ((k : ℕ) → has r k ≡ (kept-candidates (now (self .entry)) (now (access .entry) .subject .seat .index) k && lists-object (kept-chart (now (self .entry))) (now (access .entry)) k)) ⌝ }
+    {
+        let candidates = self.candidates[access.subject.seat.index as usize];
+        candidates.both(self.rows_listing(access))
+    }
+
+    /// The candidates of the record's seat once it has been noted.
+    fn candidates_after(&self, access: &Record) -> RowSet
+        ensures { λ r. ⌜ ((k : ℕ) → has r k ≡ candidate-after (kept-chart (now (self .entry))) (now (access .entry)) k (kept-candidates (now (self .entry)) (now (access .entry) .subject .seat .index) k)) ⌝ }
+    {
+        match access.request.number() {
+            9
+                if access.subject.runs == ProgramType::Nil
+                    && access.target.program == ProgramType::Tp => self.rows_of(access),
+            8 | 17..=18 | 24 if access.target.content == DataType::Cdi =>
+                self.candidates_listing(access),
+            21 => RowSet::none(),
+            _ => self.candidates[access.subject.seat.index as usize],
+        }
+    }
+
+    /// The first line that fits decides.
+    fn verdict(&self, access: &Record) -> Verdict
+        ensures { λ r. ⌜ r ≡ triples-verdict (kept-chart (now (self .entry))) (kept-candidates (now (self .entry)) (now (access .entry) .subject .seat .index)) (now (access .entry)) ⌝ }
+    {
+        match access.request.number() {
+            5 if access.subject.runs == ProgramType::Nil => Verdict::DontCare,
+            5 => Verdict::No,
+            9 => self.execute_verdict(access),
+            8 | 17..=18 | 24 if is_constrained(access) => self.open_verdict(access),
+            1 | 7 | 10..=12 | 14 => manage_verdict(access),
+            3 => give_away_verdict(access),
+            4 | 13 | 16 | 22 => Verdict::Undefined,
+            _ => Verdict::DontCare,
+        }
+    }
+
+    fn execute_verdict(&self, access: &Record) -> Verdict
+        ensures { λ r. ⌜ r ≡ execute-verdict (kept-chart (now (self .entry))) (kept-candidates (now (self .entry)) (now (access .entry) .subject .seat .index)) (now (access .entry)) ⌝ }
+    {
+        let role = access.subject.integrity;
+        match (access.subject.runs, access.target.program) {
+            (ProgramType::Nil, ProgramType::Nil) => Verdict::DontCare,
+            (process, program) if process == program => Verdict::Yes,
+            (ProgramType::Nil, ProgramType::Tp) if role == IntegrityRole::TpUser =>
+                Verdict::yes_if(self.rows_of(access).any()),
+            (ProgramType::Nil, ProgramType::Ivp) if role == IntegrityRole::IvpUser => Verdict::Yes,
+            (ProgramType::Nil, ProgramType::Tpicd) if role == IntegrityRole::TpManager =>
+                Verdict::Yes,
+            _ => Verdict::No,
+        }
+    }
+
+    /// Of constrained items and integrity-control data.
+    fn open_verdict(&self, access: &Record) -> Verdict
+        ensures { λ r. ⌜ r ≡ open-verdict (kept-chart (now (self .entry))) (kept-candidates (now (self .entry)) (now (access .entry) .subject .seat .index)) (now (access .entry)) ⌝ }
+    {
+        match (access.target.content, access.subject.runs) {
+            _ if access.target.kind != Kind::File => Verdict::Undefined,
+            (DataType::Cdi, ProgramType::Ivp) => Verdict::Yes,
+            (DataType::Cdi, ProgramType::Tp) =>
+                Verdict::yes_if(self.candidates_listing(access).any()),
+            (DataType::Cdiic, ProgramType::Tpicd) => Verdict::Yes,
+            _ => Verdict::No,
+        }
+    }
+}
+
+pub impl Policy for Triples as TriplesPolicy {
+    ghost leaves = { λ t. kept-leaf t ∷ [] };
+
+    fn judge(&self, access: &Record) -> (Verdict, u8) {
+        self.verdict(access).by(2)
+    }
+
+    fn note(&mut self, access: &Record) {
+        let candidates = self.candidates_after(access);
+        self.candidates[access.subject.seat.index as usize] = candidates;
+    }
+}
+
+/// Whether the data is a constrained item or integrity-control data.
+fn is_constrained(access: &Record) -> bool
+    ensures { λ r. ⌜ r ≡ (content-is (now (access .entry)) Cdi || content-is (now (access .entry)) Cdiic) ⌝ }
+{
+    matches!(access.target.content, DataType::Cdi | DataType::Cdiic)
+}
+
+/// Of programs and data that integrity rests on: who manages their kind may look after them.
+fn manage_verdict(access: &Record) -> Verdict
+    ensures { λ r. ⌜ r ≡ manage-verdict (now (access .entry)) ⌝ }
+{
+    let role = access.subject.integrity;
+    match (access.target.program, access.target.content) {
+        (ProgramType::Tp | ProgramType::Tpicd, _) | (_, DataType::Cdi) =>
+            Verdict::yes_if(role == IntegrityRole::TpManager),
+        (ProgramType::Ivp, _) | (_, DataType::Cdiic) =>
+            Verdict::yes_if(role == IntegrityRole::IvpManager),
+        _ => Verdict::DontCare,
+    }
+}
+
+/// Nobody gives them to another owner.
+fn give_away_verdict(access: &Record) -> Verdict
+    ensures { λ r. ⌜ r ≡ give-away-verdict (now (access .entry)) ⌝ }
+{
+    match (access.target.program, access.target.content) {
+        (ProgramType::Nil, DataType::Nil | DataType::Si) => Verdict::DontCare,
+        _ => Verdict::No,
     }
 }
 
