@@ -1,0 +1,2 @@
+//! The stack of policies that a layout house runs, and the examples that it is held to.
+pub mod stack;
