@@ -29,7 +29,7 @@ impl Associations {
 
     /// Sets a cell to an item and the next cell of the chain, 0 where the chain ends.
     pub fn add_cell(&mut self, cell: u64, item: u64, next: u64) -> Result<(), Refusal>
-        ensures { λ r. ⌜ Added tt (now (self .entry)) (added-cell (now (self .entry)) cell item next) r (now (self .exit)) ⌝ }
+        ensures { λ r. ⌜ Added (now (self .entry)) (added-cell (now (self .entry)) cell item next) r (now (self .exit)) ⌝ }
     {
         let cell = Place::numbered(cell, 1)?;
         let item = Place::numbered(item, 2)?;
@@ -55,7 +55,7 @@ impl Associations {
         procedure: u64,
         head: u64,
     ) -> Result<(), Refusal>
-        ensures { λ r. ⌜ Added tt (now (self .entry)) (added-row (now (self .entry)) row user procedure head) r (now (self .exit)) ⌝ }
+        ensures { λ r. ⌜ Added (now (self .entry)) (added-row (now (self .entry)) row user procedure head) r (now (self .exit)) ⌝ }
     {
         let row = Place::<32>::numbered(row, 1)?;
         let user = Place::numbered(user, 2)?;

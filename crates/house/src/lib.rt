@@ -1,2 +1,3 @@
 //! The stack of policies that a layout house runs, and the examples that it is held to.
+pub mod chains;
 pub mod stack;

@@ -1,6 +1,7 @@
 -- Refusals: their numbers, how a check goes on or refuses, and what an addition leaves.
 use mathlib.Core.Path.{_≡_}
 use mathlib.Core.Bool.{Bool, cond}
+use Rattle.std.specs.Results.{Cases}
 use Rattle.std.specs.declared.result.Result.{Result}
 use Rattle.std.specs.declared.result.Result.the-variants.{Ok, Err}
 use Rattle.policy.specs.declared.refusal.Refusal.{Refusal}
@@ -23,6 +24,5 @@ abbrev pub provided : {X : Type 0} → Bool → Refusal → Result X Refusal →
 provided passed refusal next = cond passed next (Err refusal)
 
 -- an addition leaves what the rules give, and one that is refused leaves everything as it stood
-abbrev pub Added : {X Y : Type 0} → Y → X → Result X Refusal → Result Y Refusal → X → Type 0
-Added answer before (Ok after) r left = (r ≡ Ok answer) × (left ≡ after)
-Added answer before (Err e) r left = (r ≡ Err e) × (left ≡ before)
+abbrev pub Added : {X Y : Type 0} → X → Result X Refusal → Result Y Refusal → X → Type 0
+Added before outcome r after = Cases r (λ _. outcome ≡ Ok after) (λ e. (outcome ≡ Err e) × (after ≡ before))
