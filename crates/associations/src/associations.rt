@@ -48,13 +48,7 @@ impl Associations {
     }
 
     /// Sets a row to a user, a procedure and the head of a chain, 0 for an empty one.
-    pub fn add_row(
-        &mut self,
-        row: u64,
-        user: u64,
-        procedure: u64,
-        head: u64,
-    ) -> Result<(), Refusal>
+    pub fn add_row(&mut self, row: u64, user: u64, procedure: u64, head: u64) -> Result<(), Refusal>
         ensures { λ r. ⌜ Added (now (self .entry)) (added-row (now (self .entry)) row user procedure head) r (now (self .exit)) ⌝ }
     {
         let row = Place::<32>::numbered(row, 1)?;

@@ -88,8 +88,9 @@ impl Triples {
             9
                 if access.subject.runs == ProgramType::Nil
                     && access.target.program == ProgramType::Tp => self.rows_of(access),
-            8 | 17..=18 | 24 if access.target.content == DataType::Cdi =>
-                self.candidates_listing(access),
+            8 | 17..=18 | 24 if access.target.content == DataType::Cdi => self.candidates_listing(
+                access,
+            ),
             21 => RowSet::none(),
             _ => self.candidates[access.subject.seat.index as usize],
         }
@@ -118,8 +119,9 @@ impl Triples {
         match (access.subject.runs, access.target.program) {
             (ProgramType::Nil, ProgramType::Nil) => Verdict::DontCare,
             (process, program) if process == program => Verdict::Yes,
-            (ProgramType::Nil, ProgramType::Tp) if role == IntegrityRole::TpUser =>
-                Verdict::yes_if(self.rows_of(access).any()),
+            (ProgramType::Nil, ProgramType::Tp) if role == IntegrityRole::TpUser => Verdict::yes_if(
+                self.rows_of(access).any(),
+            ),
             (ProgramType::Nil, ProgramType::Ivp) if role == IntegrityRole::IvpUser => Verdict::Yes,
             (ProgramType::Nil, ProgramType::Tpicd) if role == IntegrityRole::TpManager =>
                 Verdict::Yes,
@@ -134,8 +136,9 @@ impl Triples {
         match (access.target.content, access.subject.runs) {
             _ if access.target.kind != Kind::File => Verdict::Undefined,
             (DataType::Cdi, ProgramType::Ivp) => Verdict::Yes,
-            (DataType::Cdi, ProgramType::Tp) =>
-                Verdict::yes_if(self.candidates_listing(access).any()),
+            (DataType::Cdi, ProgramType::Tp) => Verdict::yes_if(
+                self.candidates_listing(access).any(),
+            ),
             (DataType::Cdiic, ProgramType::Tpicd) => Verdict::Yes,
             _ => Verdict::No,
         }
@@ -168,10 +171,12 @@ fn manage_verdict(access: &Record) -> Verdict
 {
     let role = access.subject.integrity;
     match (access.target.program, access.target.content) {
-        (ProgramType::Tp | ProgramType::Tpicd, _) | (_, DataType::Cdi) =>
-            Verdict::yes_if(role == IntegrityRole::TpManager),
-        (ProgramType::Ivp, _) | (_, DataType::Cdiic) =>
-            Verdict::yes_if(role == IntegrityRole::IvpManager),
+        (ProgramType::Tp | ProgramType::Tpicd, _) | (_, DataType::Cdi) => Verdict::yes_if(
+            role == IntegrityRole::TpManager,
+        ),
+        (ProgramType::Ivp, _) | (_, DataType::Cdiic) => Verdict::yes_if(
+            role == IntegrityRole::IvpManager,
+        ),
         _ => Verdict::DontCare,
     }
 }
@@ -199,12 +204,7 @@ fn rows_assigned(rows: &[Option<Row>; 32], user: Place<16>, procedure: Place<64>
 }
 
 /// Whether the row at the place is of the user and the procedure.
-fn is_assigned(
-    rows: &[Option<Row>; 32],
-    place: u8,
-    user: Place<16>,
-    procedure: Place<64>,
-) -> bool
+fn is_assigned(rows: &[Option<Row>; 32], place: u8, user: Place<16>, procedure: Place<64>) -> bool
     requires { ⌜ place < 32 ⌝ }
     ensures { λ r. ⌜ r ≡ row-assigned (row-at (now (rows .entry)) place) user procedure ⌝ }
 {

@@ -1,0 +1,8 @@
+use borrow.Author.Needs.{needs}
+use Rattle.labels.specs.Orders.{contains}
+use Rattle.policies.specs.LabelTable.{condition-in}
+use Rattle.house.proofs.examples.label_answers.Needs as need
+
+pub returns : need.returns
+unfolding contains condition-in
+returns c = search needs

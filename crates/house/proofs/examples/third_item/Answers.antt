@@ -1,0 +1,20 @@
+use mathlib.Core.Path.{sym, ap, _∙_}
+use mathlib.Core.List.{[], _∷_}
+use Rattle.std.specs.Results.{isOk}
+use Rattle.policy.specs.Places.{placed}
+use Rattle.associations.specs.Associations.{on-chain}
+use Rattle.triples.specs.RowSets.{any-below}
+use Rattle.house.specs.declared.examples.Answer.the-variants.{Says}
+use Rattle.house.specs.Chains.{three-chains}
+use Rattle.house.specs.Examples.{made-from}
+use Rattle.house.proofs.examples.third_item.Needs as need
+
+pub unwrap-chains-requires : need.unwrap-chains-requires
+unfolding placed
+unwrap-chains-requires c κs = ap isOk (c .three-chains .ensures)
+
+pub returns : need.returns
+unfolding placed on-chain any-below
+returns c =
+    let made = c .new-triples .ensures ∙ ap made-from (sym (c .unwrap-chains .ensures) ∙ c .three-chains .ensures) in
+    ap (λ v. Says v ∷ []) (c .verdict-after-verdict .ensures (made-from three-chains ∷ []) (ap (λ leaf. leaf ∷ []) made))
