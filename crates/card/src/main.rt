@@ -1,17 +1,28 @@
-//! The field engineer's card: the label table, counted and then printed row by row, and what it says of a few tries.
+//! The field engineer's card: the label table, tries of it, marked examples, and what a stack of four policies says.
+mod asked;
+mod marked;
+mod stacked;
 mod tries;
 mod words;
 
+use house::chains::three_chains;
+use house::examples::Answer;
+use house::examples::marked_examples;
 use labels::ladder::Ladder;
 use labels::ladder::LadderOrder;
+use marked::QUESTIONS;
+use marked::Question;
 use policies::label_listing::label_rows;
 use policies::label_policy::label_verdict;
 use policies::label_table::Row;
 use policy::words::Kind;
 use policy::words::Request;
+use stacked::print_asked;
+use stacked::print_routine;
 use std::error::AnyError;
 use tries::TRIES;
 use tries::Try;
+use words::answer_name;
 use words::condition_words;
 use words::kind_name;
 use words::request_name;
@@ -25,6 +36,8 @@ const ROW_HEADS: &str = "row  request                     kind         needs";
 const TRY_HEADS: &str =
     "process  object  request                     kind         verdict      what is tried";
 
+const EXAMPLE_HEADS: &str = "mark  answer     what is asked";
+
 fn main(rt: LibcRuntime) -> Result<(), AnyError> {
     rt.report(print_card(&rt))
 }
@@ -32,7 +45,11 @@ fn main(rt: LibcRuntime) -> Result<(), AnyError> {
 fn print_card(rt: &LibcRuntime) -> Result<(), AnyError> {
     print_table(rt)?;
     println!(rt)?;
-    print_tries(rt)
+    print_tries(rt)?;
+    println!(rt)?;
+    print_examples(rt)?;
+    println!(rt)?;
+    print_stack(rt)
 }
 
 fn print_table(rt: &LibcRuntime) -> Result<(), AnyError> {
@@ -93,4 +110,31 @@ fn print_try(rt: &LibcRuntime, ladder: &Ladder, t: &Try) -> Result<(), AnyError>
     print_place(rt, t.request, t.kind)?;
     println!(rt, "{number} {name:<9}  {what}")?;
     Ok(())
+}
+
+fn print_examples(rt: &LibcRuntime) -> Result<(), AnyError> {
+    println!(rt, "Marked examples")?;
+    println!(rt, "{EXAMPLE_HEADS}")?;
+    let answers = marked_examples();
+    for (i, question) in QUESTIONS.iter().enumerate() {
+        print_example(rt, question, answers[i])?;
+    }
+    Ok(())
+}
+
+fn print_example(rt: &LibcRuntime, question: &Question, answer: Answer) -> Result<(), AnyError> {
+    let mark = question.mark;
+    let name = answer_name(answer);
+    let what = question.what;
+    println!(rt, "{mark:>4}  {name:<9}  {what}")?;
+    Ok(())
+}
+
+fn print_stack(rt: &LibcRuntime) -> Result<(), AnyError> {
+    let Ok(chains) = three_chains() else {
+        return Err("a cell or a row of the three chains is refused".into());
+    };
+    print_asked(rt, &chains)?;
+    println!(rt)?;
+    print_routine(rt, &chains)
 }

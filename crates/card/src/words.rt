@@ -1,4 +1,5 @@
-//! How requests, kinds, conditions and verdicts are printed.
+//! How requests, kinds, conditions, verdicts and answers are printed.
+use house::examples::Answer;
 use policies::label_table::Condition;
 use policies::label_table::Row;
 use policy::words::Kind;
@@ -63,5 +64,13 @@ pub(crate) fn verdict_name(verdict: Verdict) -> &'static str {
         Verdict::Yes => "YES",
         Verdict::No => "NO",
         Verdict::Undefined => "UNDEFINED",
+    }
+}
+
+pub(crate) fn answer_name(answer: Answer) -> &'static str {
+    match answer {
+        Answer::Holds(true) => "yes",
+        Answer::Holds(false) => "no",
+        Answer::Says(verdict) => verdict_name(verdict),
     }
 }

@@ -1,0 +1,90 @@
+//! What the stack of four says: of records by themselves, and of a release routine as it goes along.
+use crate::asked::ASKED;
+use crate::asked::WHAT;
+use crate::words::verdict_name;
+use associations::associations::Associations;
+use house::records::BEGIN;
+use house::records::OPEN_ONE;
+use house::records::OPEN_THREE;
+use house::records::OPEN_TWO;
+use house::stack::HouseStack;
+use house::stack::hear;
+use house::stack::house_stack;
+use labels::compartments::Compartments;
+use labels::compartments::CompartmentsOrder;
+use policies::functional_control::FunctionalControlPolicy;
+use policies::label_policy::MandatoryLabelsPolicy;
+use policies::security_information::SecurityInformationPolicy;
+use policy::interface::Policy;
+use policy::record::Record;
+use policy::stack::StackPolicy;
+use policy::words::Verdict;
+use std::error::AnyError;
+use triples::triples::TriplesPolicy;
+
+const HEADS: &str = "control    information  triples    labels     stack        leaf  ";
+
+/// Prints what each policy and the stack say of a dozen records.
+pub(crate) fn print_asked(rt: &LibcRuntime, chains: &Associations) -> Result<(), AnyError> {
+    println!(
+        rt,
+        "The stack of functional control (leaf 3), security information (4), triples (2) and labels over compartments (1)"
+    )?;
+    println!(rt, "{HEADS}the first record, then what is other in each")?;
+    let stack = house_stack(Compartments, chains);
+    for (asked, what) in ASKED.iter().zip(WHAT.iter()) {
+        print_heard(rt, &stack, asked)?;
+        println!(rt, "{what}")?;
+    }
+    Ok(())
+}
+
+/// Prints a run of the release routine: what is granted is noted, what is refused is not.
+pub(crate) fn print_routine(rt: &LibcRuntime, chains: &Associations) -> Result<(), AnyError> {
+    println!(
+        rt,
+        "A release routine, object 10, whose rows list items {{1, 2}}, {{1, 3}} and {{2, 3}}"
+    )?;
+    println!(rt, "{HEADS}what it does")?;
+    let mut stack = house_stack(Compartments, chains);
+    print_step(rt, &mut stack, &BEGIN, "user 1 executes the routine")?;
+    print_step(rt, &mut stack, &OPEN_TWO, "it opens item 2 for reading")?;
+    print_step(rt, &mut stack, &OPEN_THREE, "it opens item 3")?;
+    print_step(rt, &mut stack, &OPEN_ONE, "it opens item 1")
+}
+
+fn print_step(
+    rt: &LibcRuntime,
+    stack: &mut HouseStack<Compartments>,
+    access: &Record,
+    what: &str,
+) -> Result<(), AnyError> {
+    let granted = print_heard(rt, stack, access)?.grants();
+    if granted {
+        stack.note(access);
+        println!(rt, "{what}: granted, and noted")?;
+    } else {
+        println!(rt, "{what}: refused")?;
+    }
+    Ok(())
+}
+
+/// Prints the columns of verdicts, and gives that of the stack.
+fn print_heard(
+    rt: &LibcRuntime,
+    stack: &HouseStack<Compartments>,
+    access: &Record,
+) -> Result<Verdict, AnyError> {
+    let heard = hear(stack, access);
+    let control = verdict_name(heard.control);
+    let information = verdict_name(heard.information);
+    let triples = verdict_name(heard.triples);
+    let labels = verdict_name(heard.labels);
+    let number = heard.joined.number();
+    let joined = verdict_name(heard.joined);
+    let named = heard.named;
+    print!(rt, "{control:<9}  {information:<11}  ")?;
+    print!(rt, "{triples:<9}  {labels:<9}  ")?;
+    print!(rt, "{number} {joined:<9}  {named:>4}  ")?;
+    Ok(heard.joined)
+}
