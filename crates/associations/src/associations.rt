@@ -70,10 +70,10 @@ impl Associations {
     }
 
     /// The rows, by place.
-    pub fn rows(&self) -> &[Option<Row>; 32]
-        ensures { λ r. ⌜ now r ≡ now (self .entry) .rows ⌝ }
+    pub fn rows(&self) -> [Option<Row>; 32]
+        ensures { λ r. ⌜ r ≡ now (self .entry) .rows ⌝ }
     {
-        &self.rows
+        self.rows
     }
 
     /// Whether the row lists the item: its chain is walked, of which no cell can come twice.

@@ -1,6 +1,11 @@
-//! Records that are put to the stack of four.
+//! Records that are put to the stack of four. They are handed out by functions, since a constant would be proved to
+//! be in its ranges again wherever it stands.
+use house::records::BEGIN;
 use house::records::DRAWING;
 use house::records::HIGH;
+use house::records::OPEN_ONE;
+use house::records::OPEN_THREE;
+use house::records::OPEN_TWO;
 use house::records::PLAIN;
 use house::records::ROUTER;
 use policy::record::Record;
@@ -21,7 +26,7 @@ const WRITE: Record = Record {
 };
 
 /// The record to start from, and a dozen that differ from it in one field each.
-pub const ASKED: [Record; 13] = [
+const ASKED: [Record; 13] = [
     WRITE,
     Record {
         request: Request::ReadOpen,
@@ -101,7 +106,7 @@ pub const ASKED: [Record; 13] = [
 ];
 
 /// What the first is, and then what is other in each.
-pub const WHAT: [&str; 13] = [
+pub const ASKED_WORDS: [&str; 13] = [
     "a user opens a general file of the process's own label for writing",
     "request 18 read-open",
     "request 4 change-role",
@@ -116,3 +121,21 @@ pub const WHAT: [&str; 13] = [
     "data 2 CDIIC, integrity-control data",
     "data 3 si, security information",
 ];
+
+pub(crate) fn asked_records() -> [Record; 13] {
+    ASKED
+}
+
+/// A release routine begins and opens three items.
+const ROUTINE: [Record; 4] = [BEGIN, OPEN_TWO, OPEN_THREE, OPEN_ONE];
+
+pub const ROUTINE_WORDS: [&str; 4] = [
+    "user 1 executes the routine",
+    "it opens item 2 for reading",
+    "it opens item 3",
+    "it opens item 1",
+];
+
+pub(crate) fn routine_records() -> [Record; 4] {
+    ROUTINE
+}

@@ -1,12 +1,10 @@
 //! What the stack of four says: of records by themselves, and of a release routine as it goes along.
-use crate::asked::ASKED;
-use crate::asked::WHAT;
+use crate::asked::ASKED_WORDS;
+use crate::asked::ROUTINE_WORDS;
+use crate::asked::asked_records;
+use crate::asked::routine_records;
 use crate::words::verdict_name;
 use associations::associations::Associations;
-use house::records::BEGIN;
-use house::records::OPEN_ONE;
-use house::records::OPEN_THREE;
-use house::records::OPEN_TWO;
 use house::stack::HouseStack;
 use house::stack::hear;
 use house::stack::house_stack;
@@ -32,8 +30,8 @@ pub(crate) fn print_asked(rt: &LibcRuntime, chains: &Associations) -> Result<(),
     )?;
     println!(rt, "{HEADS}the first record, then what is other in each")?;
     let stack = house_stack(Compartments, chains);
-    for (asked, what) in ASKED.iter().zip(WHAT.iter()) {
-        print_heard(rt, &stack, asked)?;
+    for (access, what) in asked_records().iter().zip(ASKED_WORDS.iter()) {
+        print_heard(rt, &stack, access)?;
         println!(rt, "{what}")?;
     }
     Ok(())
@@ -47,10 +45,10 @@ pub(crate) fn print_routine(rt: &LibcRuntime, chains: &Associations) -> Result<(
     )?;
     println!(rt, "{HEADS}what it does")?;
     let mut stack = house_stack(Compartments, chains);
-    print_step(rt, &mut stack, &BEGIN, "user 1 executes the routine")?;
-    print_step(rt, &mut stack, &OPEN_TWO, "it opens item 2 for reading")?;
-    print_step(rt, &mut stack, &OPEN_THREE, "it opens item 3")?;
-    print_step(rt, &mut stack, &OPEN_ONE, "it opens item 1")
+    for (access, what) in routine_records().iter().zip(ROUTINE_WORDS.iter()) {
+        print_step(rt, &mut stack, access, what)?;
+    }
+    Ok(())
 }
 
 fn print_step(

@@ -1,6 +1,7 @@
 //! The label policy: mandatory labels, over any label order.
 ghost use mathlib.Core.Path.{_≡_};
 ghost use mathlib.Core.List.{[], _∷_};
+ghost use Rattle.policy.specs.Leaves.{says};
 ghost use Rattle.policies.specs.LabelTable.{rows};
 ghost use Rattle.policies.specs.LabelPolicy.{ruled, label-verdict, label-leaf};
 ghost use Rattle.policies.specs.Flows.{LearnerDominates, ChangedDominates};
@@ -23,17 +24,18 @@ pub impl<O: LabelOrder> Policy for MandatoryLabels<O> as MandatoryLabelsPolicy {
     ghost leaves = { λ s. label-leaf (O·LabelOrder .meaning (s .order)) ∷ [] };
 
     fn judge(&self, access: &Record) -> (Verdict, u8) {
-        let verdict = label_verdict(
-            &self.order,
-            access.request,
-            access.target.kind,
-            access.subject.label,
-            access.target.label,
-        );
-        verdict.by(1)
+        verdict(&self.order, access).by(1)
     }
 
     fn note(&mut self, _access: &Record) {}
+}
+
+fn verdict<O: LabelOrder>(order: &O, access: &Record) -> Verdict
+    ensures { λ r. ⌜ r ≡ says (label-leaf (meaning (now (order .entry)))) (now (access .entry)) ⌝ }
+{
+    let process = access.subject.label;
+    let object = access.target.label;
+    label_verdict(order, access.request, access.target.kind, process, object)
 }
 
 /// What the label policy says of a request by a process with one label on an object with another.

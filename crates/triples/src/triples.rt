@@ -43,10 +43,10 @@ impl Triples {
         let none = RowSet::none();
         let mut listing = [none; 64];
         for index in 0..64 {
-            listing[index as usize] = rows_with(rows, associations, Place { index });
+            listing[index as usize] = rows_with(&rows, associations, Place { index });
         }
         Triples {
-            rows: *rows,
+            rows,
             listing,
             candidates: [none; 32],
         }
@@ -72,8 +72,8 @@ impl Triples {
         }
     }
 
-    /// The candidates of the record's seat that list its object.
-    fn candidates_listing(&self, access: &Record) -> RowSet
+    /// The candidates of the record's seat, narrowed to those that list its object.
+    fn narrowed(&self, access: &Record) -> RowSet
         ensures { λ r. ⌜ ((k : ℕ) → has r k ≡ (kept-candidates (now (self .entry)) (now (access .entry) .subject .seat .index) k && lists-object (kept-chart (now (self .entry))) (now (access .entry)) k)) ⌝ }
     {
         let candidates = self.candidates[access.subject.seat.index as usize];
@@ -88,9 +88,7 @@ impl Triples {
             9
                 if access.subject.runs == ProgramType::Nil
                     && access.target.program == ProgramType::Tp => self.rows_of(access),
-            8 | 17..=18 | 24 if access.target.content == DataType::Cdi => self.candidates_listing(
-                access,
-            ),
+            8 | 17..=18 | 24 if access.target.content == DataType::Cdi => self.narrowed(access),
             21 => RowSet::none(),
             _ => self.candidates[access.subject.seat.index as usize],
         }
@@ -136,9 +134,7 @@ impl Triples {
         match (access.target.content, access.subject.runs) {
             _ if access.target.kind != Kind::File => Verdict::Undefined,
             (DataType::Cdi, ProgramType::Ivp) => Verdict::Yes,
-            (DataType::Cdi, ProgramType::Tp) => Verdict::yes_if(
-                self.candidates_listing(access).any(),
-            ),
+            (DataType::Cdi, ProgramType::Tp) => Verdict::yes_if(self.narrowed(access).any()),
             (DataType::Cdiic, ProgramType::Tpicd) => Verdict::Yes,
             _ => Verdict::No,
         }
