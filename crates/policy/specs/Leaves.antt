@@ -1,4 +1,4 @@
--- What a policy means: a row of leaves, each a number and a book.
+-- What a policy means: a list of leaves, each a number and a book.
 use mathlib.Core.Path.{_≡_}
 use mathlib.Core.Logic.{_⊎_}
 use mathlib.Core.Bool.{cond}

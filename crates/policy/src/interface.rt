@@ -5,7 +5,7 @@ ghost use Rattle.policy.specs.Leaves.{Leaf, Judged, moved, silent, answered};
 use crate::record::Record;
 use crate::words::Verdict;
 
-/// A policy. It means a row of leaves: each has a number, and a book that gives its verdict on every record after any
+/// A policy. It means a list of leaves: each has a number, and a book that gives its verdict on every record after any
 /// records noted from now on.
 pub trait Policy {
     ghost leaves: { Self → List Leaf };
