@@ -1,141 +1,138 @@
-//! Records that are put to the stack of four. They are handed out by functions, since a constant would be proved to
-//! be in its ranges again wherever it stands.
+//! What is put to the stack of four: a record and a dozen that differ from it, and the steps of a release routine.
 use house::records::BEGIN;
-use house::records::DRAWING;
 use house::records::HIGH;
 use house::records::OPEN_ONE;
 use house::records::OPEN_THREE;
 use house::records::OPEN_TWO;
 use house::records::PLAIN;
-use house::records::ROUTER;
 use policy::record::Record;
-use policy::record::Subject;
-use policy::record::Target;
 use policy::words::Category;
 use policy::words::DataType;
 use policy::words::Kind;
 use policy::words::Request;
 
+/// The one field in which a record differs from the first.
+#[derive(Clone, Copy)]
+pub enum Change {
+    Nothing,
+    Request(Request),
+    ProcessLabel(u64),
+    ObjectLabel(u64),
+    Kind(Kind),
+    Category(Category),
+    Content(DataType),
+}
+
+impl Change {
+    /// The first record, in which a user's process opens a general file of its own label for writing, with the change.
+    pub(crate) fn record(self) -> Record {
+        let mut access = PLAIN;
+        access.request = Request::WriteOpen;
+        match self {
+            Change::Nothing => {}
+            Change::Request(request) => access.request = request,
+            Change::ProcessLabel(label) => access.subject.label = label,
+            Change::ObjectLabel(label) => access.target.label = label,
+            Change::Kind(kind) => access.target.kind = kind,
+            Change::Category(category) => access.target.category = category,
+            Change::Content(content) => access.target.content = content,
+        }
+        access
+    }
+}
+
+/// A record, and what it is or what is other in it.
+#[derive(Clone, Copy)]
+pub struct Asked {
+    pub change: Change,
+    pub what: &'static str,
+}
+
 /// The first code that compartments have no label for.
 const UNLAWFUL: u64 = 16_777_216;
 
-/// A user's process opens a general file of its own label for writing.
-const WRITE: Record = Record {
-    request: Request::WriteOpen,
-    ..PLAIN
-};
-
-/// The record to start from, and a dozen that differ from it in one field each.
-const ASKED: [Record; 13] = [
-    WRITE,
-    Record {
-        request: Request::ReadOpen,
-        ..WRITE
+pub const ASKED: [Asked; 13] = [
+    Asked {
+        change: Change::Nothing,
+        what: "a user opens a general file of the process's own label for writing",
     },
-    Record {
-        request: Request::ChangeRole,
-        ..WRITE
+    Asked {
+        change: Change::Request(Request::ReadOpen),
+        what: "request 18 read-open",
     },
-    Record {
-        request: Request::Enter,
-        ..WRITE
+    Asked {
+        change: Change::Request(Request::ChangeRole),
+        what: "request 4 change-role",
     },
-    Record {
-        subject: Subject {
-            label: HIGH,
-            ..ROUTER
-        },
-        ..WRITE
+    Asked {
+        change: Change::Request(Request::Enter),
+        what: "request 25 enter",
     },
-    Record {
-        target: Target {
-            label: HIGH,
-            ..DRAWING
-        },
-        ..WRITE
+    Asked {
+        change: Change::ProcessLabel(HIGH),
+        what: "process label 131,075",
     },
-    Record {
-        target: Target {
-            label: UNLAWFUL,
-            ..DRAWING
-        },
-        ..WRITE
+    Asked {
+        change: Change::ObjectLabel(HIGH),
+        what: "object label 131,075",
     },
-    Record {
-        target: Target {
-            kind: Kind::Directory,
-            ..DRAWING
-        },
-        ..WRITE
+    Asked {
+        change: Change::ObjectLabel(UNLAWFUL),
+        what: "object label 16,777,216, which is not lawful",
     },
-    Record {
-        target: Target {
-            category: Category::Security,
-            ..DRAWING
-        },
-        ..WRITE
+    Asked {
+        change: Change::Kind(Kind::Directory),
+        what: "kind 2 directory",
     },
-    Record {
-        target: Target {
-            category: Category::System,
-            ..DRAWING
-        },
-        ..WRITE
+    Asked {
+        change: Change::Category(Category::Security),
+        what: "category 1 security",
     },
-    Record {
-        target: Target {
-            content: DataType::Cdi,
-            ..DRAWING
-        },
-        ..WRITE
+    Asked {
+        change: Change::Category(Category::System),
+        what: "category 2 system",
     },
-    Record {
-        target: Target {
-            content: DataType::Cdiic,
-            ..DRAWING
-        },
-        ..WRITE
+    Asked {
+        change: Change::Content(DataType::Cdi),
+        what: "data 1 CDI, a constrained item",
     },
-    Record {
-        target: Target {
-            content: DataType::Si,
-            ..DRAWING
-        },
-        ..WRITE
+    Asked {
+        change: Change::Content(DataType::Cdiic),
+        what: "data 2 CDIIC, integrity-control data",
+    },
+    Asked {
+        change: Change::Content(DataType::Si),
+        what: "data 3 si, security information",
     },
 ];
 
-/// What the first is, and then what is other in each.
-pub const ASKED_WORDS: [&str; 13] = [
-    "a user opens a general file of the process's own label for writing",
-    "request 18 read-open",
-    "request 4 change-role",
-    "request 25 enter",
-    "process label 131,075",
-    "object label 131,075",
-    "object label 16,777,216, which is not lawful",
-    "kind 2 directory",
-    "category 1 security",
-    "category 2 system",
-    "data 1 CDI, a constrained item",
-    "data 2 CDIIC, integrity-control data",
-    "data 3 si, security information",
-];
-
-pub(crate) fn asked_records() -> [Record; 13] {
-    ASKED
+/// What a release routine does.
+#[derive(Clone, Copy)]
+pub enum Step {
+    Begin,
+    OpenOne,
+    OpenTwo,
+    OpenThree,
 }
 
-/// A release routine begins and opens three items.
-const ROUTINE: [Record; 4] = [BEGIN, OPEN_TWO, OPEN_THREE, OPEN_ONE];
+impl Step {
+    pub(crate) fn record(self) -> Record {
+        match self {
+            Step::Begin => BEGIN,
+            Step::OpenOne => OPEN_ONE,
+            Step::OpenTwo => OPEN_TWO,
+            Step::OpenThree => OPEN_THREE,
+        }
+    }
 
-pub const ROUTINE_WORDS: [&str; 4] = [
-    "user 1 executes the routine",
-    "it opens item 2 for reading",
-    "it opens item 3",
-    "it opens item 1",
-];
-
-pub(crate) fn routine_records() -> [Record; 4] {
-    ROUTINE
+    pub(crate) fn words(self) -> &'static str {
+        match self {
+            Step::Begin => "user 1 executes the routine",
+            Step::OpenOne => "it opens item 1 for reading",
+            Step::OpenTwo => "it opens item 2 for reading",
+            Step::OpenThree => "it opens item 3 for reading",
+        }
+    }
 }
+
+pub const ROUTINE: [Step; 4] = [Step::Begin, Step::OpenTwo, Step::OpenThree, Step::OpenOne];

@@ -1,8 +1,7 @@
 //! What the stack of four says: of records by themselves, and of a release routine as it goes along.
-use crate::asked::ASKED_WORDS;
-use crate::asked::ROUTINE_WORDS;
-use crate::asked::asked_records;
-use crate::asked::routine_records;
+use crate::asked::ASKED;
+use crate::asked::ROUTINE;
+use crate::asked::Step;
 use crate::words::verdict_name;
 use associations::associations::Associations;
 use house::stack::HouseStack;
@@ -30,8 +29,9 @@ pub(crate) fn print_asked(rt: &LibcRuntime, chains: &Associations) -> Result<(),
     )?;
     println!(rt, "{HEADS}the first record, then what is other in each")?;
     let stack = house_stack(Compartments, chains);
-    for (access, what) in asked_records().iter().zip(ASKED_WORDS.iter()) {
-        print_heard(rt, &stack, access)?;
+    for asked in ASKED {
+        let what = asked.what;
+        print_heard(rt, &stack, &asked.change.record())?;
         println!(rt, "{what}")?;
     }
     Ok(())
@@ -45,8 +45,8 @@ pub(crate) fn print_routine(rt: &LibcRuntime, chains: &Associations) -> Result<(
     )?;
     println!(rt, "{HEADS}what it does")?;
     let mut stack = house_stack(Compartments, chains);
-    for (access, what) in routine_records().iter().zip(ROUTINE_WORDS.iter()) {
-        print_step(rt, &mut stack, access, what)?;
+    for step in ROUTINE {
+        print_step(rt, &mut stack, step)?;
     }
     Ok(())
 }
@@ -54,12 +54,12 @@ pub(crate) fn print_routine(rt: &LibcRuntime, chains: &Associations) -> Result<(
 fn print_step(
     rt: &LibcRuntime,
     stack: &mut HouseStack<Compartments>,
-    access: &Record,
-    what: &str,
+    step: Step,
 ) -> Result<(), AnyError> {
-    let granted = print_heard(rt, stack, access)?.grants();
-    if granted {
-        stack.note(access);
+    let access = step.record();
+    let what = step.words();
+    if print_heard(rt, stack, &access)?.grants() {
+        stack.note(&access);
         println!(rt, "{what}: granted, and noted")?;
     } else {
         println!(rt, "{what}: refused")?;

@@ -1,5 +1,7 @@
 //! From numbers to places and back.
 ghost use mathlib.Core.Path.{_≡_};
+ghost use Prim.Native.Nat.{_≤_};
+ghost use Rattle.std.specs.Orderings.{Decides};
 ghost use Rattle.policy.specs.Places.{placed, placed-or-none, number-of};
 use crate::place::Place;
 use crate::refusal::Refusal;
@@ -9,7 +11,7 @@ impl<const N: u8> Place<N> {
     pub fn numbered(number: u64, position: u8) -> Result<Place<N>, Refusal>
         ensures { λ r. ⌜ r ≡ placed N number position ⌝ }
     {
-        if number >= 1 && number <= N as u64 {
+        if is_number(number, N) {
             let index = (number - 1) as u8;
             Ok(Place { index })
         } else {
@@ -34,4 +36,11 @@ impl<const N: u8> Place<N> {
     {
         self.index + 1
     }
+}
+
+/// Whether it is a number from 1 to a count.
+fn is_number(number: u64, count: u8) -> bool
+    ensures { λ r. ⌜ Decides r ((1 ≤ number) × (number ≤ count)) ⌝ }
+{
+    number >= 1 && number <= count as u64
 }
