@@ -7,15 +7,15 @@ use associations::associations::Associations;
 use house::stack::HouseStack;
 use house::stack::hear;
 use house::stack::house_stack;
+use label_policies::label_policy::MandatoryLabelsPolicy;
 use labels::compartments::Compartments;
 use labels::compartments::CompartmentsOrder;
-use policies::functional_control::FunctionalControlPolicy;
-use policies::label_policy::MandatoryLabelsPolicy;
-use policies::security_information::SecurityInformationPolicy;
 use policy::interface::Policy;
 use policy::record::Record;
 use policy::stack::StackPolicy;
 use policy::words::Verdict;
+use roles::functional_control::FunctionalControlPolicy;
+use roles::security_information::SecurityInformationPolicy;
 use std::error::AnyError;
 use triples::triples::TriplesPolicy;
 

@@ -1,7 +1,7 @@
 //! How requests, kinds, conditions, verdicts and answers are printed.
 use house::examples::Answer;
-use policies::label_table::Condition;
-use policies::label_table::Row;
+use label_policies::label_table::Condition;
+use label_policies::label_table::Row;
 use policy::words::Kind;
 use policy::words::Request;
 use policy::words::Verdict;

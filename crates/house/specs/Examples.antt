@@ -24,8 +24,8 @@ use Rattle.policy.specs.declared.words.Category.the-variants.{General}
 use Rattle.policy.specs.declared.words.DataType.{DataType}
 use Rattle.policy.specs.declared.words.Verdict.the-variants.{DontCare, Yes, No, Undefined}
 use Rattle.policy.specs.Leaves.{Leaf, silent}
-use Rattle.policies.specs.Roles.{security-information-leaf}
-use Rattle.policies.specs.LabelPolicy.{label-leaf}
+use Rattle.roles.specs.Roles.{security-information-leaf}
+use Rattle.label_policies.specs.LabelPolicy.{label-leaf}
 use Rattle.associations.specs.declared.associations.Associations.{Associations}
 use Rattle.triples.specs.Triples.{chart-of, no-candidates, triples-leaf}
 use Rattle.house.specs.declared.examples.Answer.{Answer}

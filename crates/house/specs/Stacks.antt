@@ -5,11 +5,11 @@ use Rattle.labels.specs.Orders.{Order}
 use Rattle.policy.specs.declared.record.Record.{Record}
 use Rattle.policy.specs.declared.stack.Stack.{Stack}
 use Rattle.policy.specs.Leaves.{Leaf, joined, Judged}
-use Rattle.policies.specs.declared.functional_control.FunctionalControl.{FunctionalControl}
-use Rattle.policies.specs.declared.security_information.SecurityInformation.{SecurityInformation}
-use Rattle.policies.specs.declared.label_policy.MandatoryLabels.{MandatoryLabels}
-use Rattle.policies.specs.Roles.{functional-control-leaf, security-information-leaf}
-use Rattle.policies.specs.LabelPolicy.{label-leaf}
+use Rattle.roles.specs.declared.functional_control.FunctionalControl.{FunctionalControl}
+use Rattle.roles.specs.declared.security_information.SecurityInformation.{SecurityInformation}
+use Rattle.label_policies.specs.declared.label_policy.MandatoryLabels.{MandatoryLabels}
+use Rattle.roles.specs.Roles.{functional-control-leaf, security-information-leaf}
+use Rattle.label_policies.specs.LabelPolicy.{label-leaf}
 use Rattle.associations.specs.declared.associations.Associations.{Associations}
 use Rattle.triples.specs.declared.triples.Triples.{Triples}
 use Rattle.triples.specs.Triples.{chart-of, no-candidates, triples-leaf}

@@ -2,18 +2,18 @@
 ghost use mathlib.Core.Path.{_≡_};
 ghost use Rattle.house.specs.Stacks.{house-leaves, new-leaves, Heard};
 use associations::associations::Associations;
+use label_policies::label_policy::MandatoryLabels;
+use label_policies::label_policy::MandatoryLabelsPolicy;
 use labels::order::LabelOrder;
-use policies::functional_control::FunctionalControl;
-use policies::functional_control::FunctionalControlPolicy;
-use policies::label_policy::MandatoryLabels;
-use policies::label_policy::MandatoryLabelsPolicy;
-use policies::security_information::SecurityInformation;
-use policies::security_information::SecurityInformationPolicy;
 use policy::interface::Policy;
 use policy::record::Record;
 use policy::stack::Stack;
 use policy::stack::StackPolicy;
 use policy::words::Verdict;
+use roles::functional_control::FunctionalControl;
+use roles::functional_control::FunctionalControlPolicy;
+use roles::security_information::SecurityInformation;
+use roles::security_information::SecurityInformationPolicy;
 use triples::triples::Triples;
 use triples::triples::TriplesPolicy;
 

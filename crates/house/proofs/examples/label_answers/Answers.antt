@@ -1,6 +1,6 @@
 use borrow.Author.Needs.{needs}
 use Rattle.labels.specs.Orders.{contains}
-use Rattle.policies.specs.LabelTable.{condition-in}
+use Rattle.label_policies.specs.LabelTable.{condition-in}
 use Rattle.house.proofs.examples.label_answers.Needs as need
 
 pub returns : need.returns

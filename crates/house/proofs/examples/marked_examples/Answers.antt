@@ -1,7 +1,7 @@
 use mathlib.Core.Path.{refl}
 use Rattle.labels.specs.Orders.{contains}
 use Rattle.policy.specs.Places.{placed}
-use Rattle.policies.specs.LabelTable.{condition-in}
+use Rattle.label_policies.specs.LabelTable.{condition-in}
 use Rattle.associations.specs.Associations.{on-chain}
 use Rattle.triples.specs.RowSets.{any-below}
 use Rattle.house.proofs.examples.marked_examples.Needs as need

@@ -1,0 +1,4 @@
+pub mod LabelTable
+pub mod LabelPolicy
+pub mod Flows
+pub mod Listing

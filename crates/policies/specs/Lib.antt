@@ -1,5 +1,0 @@
-pub mod LabelTable
-pub mod LabelPolicy
-pub mod Flows
-pub mod Listing
-pub mod Roles
