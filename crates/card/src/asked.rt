@@ -2,9 +2,8 @@
 use house::records::BEGIN;
 use house::records::HIGH;
 use house::records::OPEN_ONE;
-use house::records::OPEN_THREE;
-use house::records::OPEN_TWO;
 use house::records::PLAIN;
+use policy::place::Place;
 use policy::record::Record;
 use policy::words::Category;
 use policy::words::DataType;
@@ -117,12 +116,14 @@ pub enum Step {
 
 impl Step {
     pub(crate) fn record(self) -> Record {
+        let mut access = OPEN_ONE;
         match self {
-            Step::Begin => BEGIN,
-            Step::OpenOne => OPEN_ONE,
-            Step::OpenTwo => OPEN_TWO,
-            Step::OpenThree => OPEN_THREE,
+            Step::Begin => access = BEGIN,
+            Step::OpenOne => {}
+            Step::OpenTwo => access.target.object = Some(Place { index: 1 }),
+            Step::OpenThree => access.target.object = Some(Place { index: 2 }),
         }
+        access
     }
 
     pub(crate) fn words(self) -> &'static str {

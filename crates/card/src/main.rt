@@ -20,6 +20,7 @@ use policy::words::Request;
 use stacked::print_asked;
 use stacked::print_routine;
 use std::error::AnyError;
+use std::io;
 use tries::TRIES;
 use tries::Try;
 use words::answer_name;
@@ -66,24 +67,22 @@ fn print_table(rt: &LibcRuntime) -> Result<(), AnyError> {
     Ok(())
 }
 
-fn print_row(rt: &LibcRuntime, i: usize, row: &Row) -> Result<(), AnyError> {
+fn print_row(rt: &LibcRuntime, i: usize, row: &Row) -> io::Result<()> {
     let number = i.saturating_add(1);
     let needs = condition_words(row);
     print!(rt, "{number:>3}  ")?;
     print_place(rt, row.request, row.kind)?;
-    println!(rt, "{needs}")?;
-    Ok(())
+    println!(rt, "{needs}")
 }
 
 /// The columns of a request and a kind.
-fn print_place(rt: &LibcRuntime, request: Request, kind: Kind) -> Result<(), AnyError> {
+fn print_place(rt: &LibcRuntime, request: Request, kind: Kind) -> io::Result<()> {
     let request_number = request.number();
     let request_name = request_name(request);
     let kind_number = kind.number();
     let kind_name = kind_name(kind);
     print!(rt, "{request_number:>2} {request_name:<23}  ")?;
-    print!(rt, "{kind_number} {kind_name:<9}  ")?;
-    Ok(())
+    print!(rt, "{kind_number} {kind_name:<9}  ")
 }
 
 fn print_tries(rt: &LibcRuntime) -> Result<(), AnyError> {
@@ -99,7 +98,7 @@ fn print_tries(rt: &LibcRuntime) -> Result<(), AnyError> {
     Ok(())
 }
 
-fn print_try(rt: &LibcRuntime, ladder: &Ladder, t: &Try) -> Result<(), AnyError> {
+fn print_try(rt: &LibcRuntime, ladder: &Ladder, t: &Try) -> io::Result<()> {
     let verdict = label_verdict(ladder, t.request, t.kind, t.process, t.object);
     let process = t.process;
     let object = t.object;
@@ -108,11 +107,10 @@ fn print_try(rt: &LibcRuntime, ladder: &Ladder, t: &Try) -> Result<(), AnyError>
     let what = t.what;
     print!(rt, "{process:>7}  {object:>6}  ")?;
     print_place(rt, t.request, t.kind)?;
-    println!(rt, "{number} {name:<9}  {what}")?;
-    Ok(())
+    println!(rt, "{number} {name:<9}  {what}")
 }
 
-fn print_examples(rt: &LibcRuntime) -> Result<(), AnyError> {
+fn print_examples(rt: &LibcRuntime) -> io::Result<()> {
     println!(rt, "Marked examples")?;
     println!(rt, "{EXAMPLE_HEADS}")?;
     let answers = marked_examples();
@@ -122,12 +120,11 @@ fn print_examples(rt: &LibcRuntime) -> Result<(), AnyError> {
     Ok(())
 }
 
-fn print_example(rt: &LibcRuntime, question: &Question, answer: Answer) -> Result<(), AnyError> {
+fn print_example(rt: &LibcRuntime, question: &Question, answer: Answer) -> io::Result<()> {
     let mark = question.mark;
     let name = answer_name(answer);
     let what = question.what;
-    println!(rt, "{mark:>4}  {name:<9}  {what}")?;
-    Ok(())
+    println!(rt, "{mark:>4}  {name:<9}  {what}")
 }
 
 fn print_stack(rt: &LibcRuntime) -> Result<(), AnyError> {
@@ -136,5 +133,6 @@ fn print_stack(rt: &LibcRuntime) -> Result<(), AnyError> {
     };
     print_asked(rt, &chains)?;
     println!(rt)?;
-    print_routine(rt, &chains)
+    print_routine(rt, &chains)?;
+    Ok(())
 }

@@ -1,4 +1,4 @@
-use mathlib.Core.Path.{sym, ap, _∙_}
+use mathlib.Core.Path.{ap}
 use mathlib.Core.List.{[], _∷_}
 use Rattle.std.specs.Results.{isOk}
 use Rattle.policy.specs.Places.{placed}
@@ -7,6 +7,7 @@ use Rattle.triples.specs.RowSets.{any-below}
 use Rattle.house.specs.declared.examples.Answer.the-variants.{Says}
 use Rattle.house.specs.Chains.{three-chains}
 use Rattle.house.specs.Examples.{made-from}
+use Rattle.house.proofs.Made.{made-alone}
 use Rattle.house.proofs.examples.third_item.Needs as need
 
 pub unwrap-chains-requires : need.unwrap-chains-requires
@@ -16,5 +17,5 @@ unwrap-chains-requires c κs = ap isOk (c .three-chains .ensures)
 pub returns : need.returns
 unfolding placed on-chain any-below
 returns c =
-    let made = c .new-triples .ensures ∙ ap made-from (sym (c .unwrap-chains .ensures) ∙ c .three-chains .ensures) in
-    ap (λ v. Says v ∷ []) (c .verdict-after-verdict .ensures (made-from three-chains ∷ []) (ap (λ leaf. leaf ∷ []) made))
+    ap (λ v. Says v ∷ [])
+    (c .verdict-after-verdict .ensures (made-from three-chains ∷ []) (made-alone _ _ _ three-chains (c .new-triples .ensures) (c .unwrap-chains .ensures) (c .three-chains .ensures)))
