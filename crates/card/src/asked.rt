@@ -1,8 +1,8 @@
 //! What is put to the stack of four: a record and a dozen that differ from it, and the steps of a release routine.
-use house::records::BEGIN;
-use house::records::HIGH;
-use house::records::OPEN_ONE;
-use house::records::PLAIN;
+use examples::records::BEGIN;
+use examples::records::HIGH;
+use examples::records::OPEN_ONE;
+use examples::records::PLAIN;
 use policy::place::Place;
 use policy::record::Record;
 use policy::words::Category;

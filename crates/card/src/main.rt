@@ -5,9 +5,9 @@ mod stacked;
 mod tries;
 mod words;
 
-use house::chains::three_chains;
-use house::examples::Answer;
-use house::examples::marked_examples;
+use examples::chains::three_chains;
+use examples::marked::Answer;
+use examples::marked::marked_examples;
 use label_policies::label_listing::label_rows;
 use label_policies::label_policy::label_verdict;
 use label_policies::label_table::Row;
@@ -107,7 +107,8 @@ fn print_try(rt: &LibcRuntime, ladder: &Ladder, t: &Try) -> io::Result<()> {
     let what = t.what;
     print!(rt, "{process:>7}  {object:>6}  ")?;
     print_place(rt, t.request, t.kind)?;
-    println!(rt, "{number} {name:<9}  {what}")
+    print!(rt, "{number} {name:<9}  ")?;
+    println!(rt, "{what}")
 }
 
 fn print_examples(rt: &LibcRuntime) -> io::Result<()> {
@@ -124,7 +125,8 @@ fn print_example(rt: &LibcRuntime, question: &Question, answer: Answer) -> io::R
     let mark = question.mark;
     let name = answer_name(answer);
     let what = question.what;
-    println!(rt, "{mark:>4}  {name:<9}  {what}")
+    print!(rt, "{mark:>4}  {name:<9}  ")?;
+    println!(rt, "{what}")
 }
 
 fn print_stack(rt: &LibcRuntime) -> Result<(), AnyError> {

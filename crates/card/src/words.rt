@@ -1,5 +1,5 @@
 //! How requests, kinds, conditions, verdicts and answers are printed.
-use house::examples::Answer;
+use examples::marked::Answer;
 use label_policies::label_table::Condition;
 use label_policies::label_table::Row;
 use policy::words::Kind;

@@ -1,3 +1,1 @@
 pub mod Stacks
-pub mod Chains
-pub mod Examples

@@ -2,5 +2,3 @@
 pub mod compartments;
 pub mod ladder;
 pub mod order;
-#[cfg(test)]
-mod tests;

@@ -28,9 +28,9 @@ use Rattle.roles.specs.Roles.{security-information-leaf}
 use Rattle.label_policies.specs.LabelPolicy.{label-leaf}
 use Rattle.associations.specs.declared.associations.Associations.{Associations}
 use Rattle.triples.specs.Triples.{chart-of, no-candidates, triples-leaf}
-use Rattle.house.specs.declared.examples.Answer.{Answer}
-use Rattle.house.specs.declared.examples.Answer.the-variants.{Holds, Says}
-use Rattle.house.specs.Chains.{three-chains}
+use Rattle.examples.specs.declared.marked.Answer.{Answer}
+use Rattle.examples.specs.declared.marked.Answer.the-variants.{Holds, Says}
+use Rattle.examples.specs.Chains.{three-chains}
 
 pub data Question : Type 0 where
   -- is the code lawful

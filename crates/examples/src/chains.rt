@@ -1,7 +1,7 @@
 //! Three chains of two items each: {1, 2}, {1, 3} and {2, 3}.
 ghost use mathlib.Core.Path.{_≡_};
 ghost use Rattle.std.specs.declared.result.Result.the-variants.{Ok};
-ghost use Rattle.house.specs.Chains.{three-chains};
+ghost use Rattle.examples.specs.Chains.{three-chains};
 use associations::associations::Associations;
 use policy::refusal::Refusal;
 

@@ -4,11 +4,11 @@ use Rattle.std.specs.Results.{isOk}
 use Rattle.policy.specs.Places.{placed}
 use Rattle.associations.specs.Associations.{on-chain}
 use Rattle.triples.specs.RowSets.{any-below}
-use Rattle.house.specs.declared.examples.Answer.the-variants.{Says}
-use Rattle.house.specs.Chains.{three-chains}
-use Rattle.house.specs.Examples.{made-from}
-use Rattle.house.proofs.Made.{made-alone}
-use Rattle.house.proofs.examples.third_item.Needs as need
+use Rattle.examples.specs.declared.marked.Answer.the-variants.{Says}
+use Rattle.examples.specs.Chains.{three-chains}
+use Rattle.examples.specs.Examples.{made-from}
+use Rattle.examples.proofs.Made.{made-alone}
+use Rattle.examples.proofs.marked.third_item.Needs as need
 
 pub unwrap-chains-requires : need.unwrap-chains-requires
 unfolding placed

@@ -2,7 +2,7 @@
 ghost use mathlib.Core.Path.{_≡_};
 ghost use mathlib.Core.List.{List, [], _∷_, map};
 ghost use Rattle.policy.specs.Leaves.{Leaf, joined, moved};
-ghost use Rattle.house.specs.Examples.{answers, ExamplesHold};
+ghost use Rattle.examples.specs.Examples.{answers, ExamplesHold};
 use crate::chains::three_chains;
 use crate::records::BEGIN;
 use crate::records::DRAWING;

@@ -1,7 +1,7 @@
 use borrow.Author.Needs.{needs}
 use Rattle.labels.specs.Orders.{contains}
 use Rattle.label_policies.specs.LabelTable.{condition-in}
-use Rattle.house.proofs.examples.label_answers.Needs as need
+use Rattle.examples.proofs.marked.label_answers.Needs as need
 
 pub returns : need.returns
 unfolding contains condition-in

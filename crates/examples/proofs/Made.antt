@@ -6,7 +6,7 @@ use Rattle.std.specs.declared.result.Result.the-variants.{Ok}
 use Rattle.policy.specs.declared.refusal.Refusal.{Refusal}
 use Rattle.policy.specs.Leaves.{Leaf}
 use Rattle.associations.specs.declared.associations.Associations.{Associations}
-use Rattle.house.specs.Examples.{made-from}
+use Rattle.examples.specs.Examples.{made-from}
 
 abbrev alone : Leaf → List Leaf
 alone leaf = leaf ∷ []
