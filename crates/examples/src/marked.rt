@@ -7,7 +7,6 @@ use crate::chains::three_chains;
 use crate::records::BEGIN;
 use crate::records::DRAWING;
 use crate::records::HIGH;
-use crate::records::LOW;
 use crate::records::OPEN_ONE;
 use crate::records::OPEN_THREE;
 use crate::records::OPEN_TWO;
