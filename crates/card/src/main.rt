@@ -1,4 +1,6 @@
 //! The field engineer's card: the label table, tries of it, marked examples, and what a stack of four policies says.
+#![tactic(auto)]
+
 mod asked;
 mod marked;
 mod stacked;

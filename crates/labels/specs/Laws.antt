@@ -1,8 +1,8 @@
--- The laws of compartments.
+-- The laws of the two orders. Proofs, which the impls of the orders cite: nothing here says what is promised.
 use Rattle.std.specs.Prelude.{◌≡◌, ℕ, ◌%◌, ◌≤◌, Bool, true, ◌&&◌, nat_le}
 use Rattle.std.proofs.Common.{arith}
 use Rattle.std.proofs.lemmas.Bool.{and_parts, and_from, leb-true, le-leb}
-use Rattle.labels.specs.Orders.{OrderLaws, among_lawful, level, contains, compartments}
+use Rattle.labels.specs.Orders.{OrderLaws, among_lawful, ladder, level, contains, compartments}
 use Rattle.labels.specs.Sets.{Contains, contains_decides, same_set}
 
 -- an order among lawful codes has the laws if its relation is reflexive, antisymmetric and transitive
@@ -17,6 +17,9 @@ module _ (lawful : ℕ → Bool) (above : ℕ → ℕ → Bool)
     antisymmetric = λ a b h k. both_ways a b (grind arith) (grind arith);
     transitive = λ a b c h k. let on = onwards a b c (grind arith) (grind arith) in grind arith;
   }
+
+pub ladder_laws : (n : ℕ) → OrderLaws (ladder n)
+ladder_laws n = lawful_laws _ (λ a b. nat_le b a) (λ a. grind arith) (λ a b h k. grind arith) (λ a b c h k. grind arith)
 
 -- the relation of compartments: what it says, and how it is shown
 record Above (a b : ℕ) : Type 0 where

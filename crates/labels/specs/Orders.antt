@@ -1,6 +1,6 @@
 -- What a label order is, the laws that one keeps, and the orders of this crate.
 -- A code is any number here; a label of the program is one below 2 ^ 64.
-use Rattle.std.specs.Prelude.{◌≡◌, ℕ, zero, suc, ◌/◌, ◌%◌, ◌^◌, ◌≤◌, Bool, true, not, ◌&&◌, ◌||◌, leb, ◌==◌, nat_le, nat_lt}
+use Rattle.std.specs.Prelude.{◌≡◌, ℕ, zero, suc, ◌/◌, ◌%◌, ◌^◌, ◌≤◌, Bool, true, not, ◌&&◌, ◌||◌, ◌==◌, nat_le, nat_lt}
 
 pub record Order : Type 0 where
   pub lawful : ℕ → Bool
@@ -26,7 +26,7 @@ IsHeight n = (1 ≤ n) × (n ≤ 256)
 
 -- the ladder of n steps: codes 0 to n - 1, by the order of numbers
 abbrev pub ladder : ℕ → Order
-ladder n = among_lawful (λ c. nat_lt c n) (λ a b. leb b a)
+ladder n = among_lawful (λ c. nat_lt c n) (λ a b. nat_le b a)
 
 -- in compartments, a code is level × 65,536 + set
 abbrev pub level : ℕ → ℕ

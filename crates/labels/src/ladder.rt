@@ -1,7 +1,7 @@
 //! The ladder: its labels are steps, one above the other.
 ghost use Rattle.std.specs.Prelude.{◌≡◌, MatchOption};
 ghost use Rattle.labels.specs.Orders.{ladder, IsHeight};
-ghost use Rattle.std.proofs.Common.{rules, arith};
+ghost use Rattle.labels.specs.Laws.{ladder_laws};
 
 use crate::order::LabelOrder;
 
@@ -31,7 +31,7 @@ impl Ladder {
 impl LabelOrder for Ladder {
     ghost meaning = { λ s. ladder s.steps };
 
-    ghost laws = { first_of (Prim.search rules, Prim.grind (arith, Self.row.coded.inj)) };
+    ghost laws = { λ s. ladder_laws s.steps };
 
     fn is_lawful(&self, code: u64) -> bool {
         code < self.steps

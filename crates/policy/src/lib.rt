@@ -1,4 +1,6 @@
 //! What a policy is asked, what it answers, what it means, and how policies are stacked.
+#![tactic(auto)]
+
 pub mod interface;
 pub mod numbering;
 pub mod place;
