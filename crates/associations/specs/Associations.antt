@@ -1,5 +1,5 @@
 -- Rows and cells as they are added, and the chain of items that a row lists.
-use Rattle.std.specs.Prelude.{ℕ, zero, suc, Bool, true, false, not, ◌||◌, List, set, replicate, Some, None, Ok, Err, Option, Result, ◌==◌, nat_lt, slice_index_or, slice_set}
+use Rattle.std.specs.Prelude.{ℕ, zero, suc, Bool, true, false, not, ◌||◌, List, replicate, Some, None, Ok, Option, Result, ◌==◌, nat_lt, slice_index_or, slice_set}
 use Rattle.policy.specs.declared.place.Place.{Place}
 use Rattle.policy.specs.declared.refusal.Refusal.{Refusal}
 use Rattle.policy.specs.declared.refusal.Refusal.TheVariants.{OutOfRange, SetTwice, CellNotSet}

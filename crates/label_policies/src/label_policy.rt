@@ -18,7 +18,7 @@ pub struct MandatoryLabels<O> {
 }
 
 impl<O: LabelOrder> Policy for MandatoryLabels<O> {
-    ghost leaves = { λ s. label_leaf (O.LabelOrder.meaning s.order) ∷ [] };
+    ghost leaves = { λ s. label_leaf (O.meaning s.order) ∷ [] };
 
     fn judge(&self, access: &Record) -> (Verdict, u8) {
         verdict(&self.order, access).by(1)
@@ -28,7 +28,7 @@ impl<O: LabelOrder> Policy for MandatoryLabels<O> {
 }
 
 fn verdict<O: LabelOrder>(order: &O, access: &Record) -> Verdict
-    ensures { result ≡ says (label_leaf (meaning order.now)) access.now }
+    ensures { result ≡ says (label_leaf (O.meaning order.now)) access.now }
 {
     let process = access.subject.label;
     let object = access.target.label;
@@ -44,9 +44,9 @@ pub fn label_verdict<O: LabelOrder>(
     process: u64,
     object: u64,
 ) -> Verdict
-    ensures value { result ≡ label_verdict rows (meaning order.now) request kind process object }
-    ensures learned { LearnerDominates (meaning order.now) request kind process object result }
-    ensures changed { ChangedDominates (meaning order.now) request kind process object result }
+    ensures value { result ≡ label_verdict rows (O.meaning order.now) request kind process object }
+    ensures learned { LearnerDominates (O.meaning order.now) request kind process object result }
+    ensures changed { ChangedDominates (O.meaning order.now) request kind process object result }
 {
     ruling(order, condition_of(request, kind), process, object)
 }
@@ -58,7 +58,7 @@ fn ruling<O: LabelOrder>(
     process: u64,
     object: u64,
 ) -> Verdict
-    ensures { result ≡ ruled (meaning order.now) condition process object }
+    ensures { result ≡ ruled (O.meaning order.now) condition process object }
 {
     let comparable = order.is_lawful(process) && order.is_lawful(object);
     match condition {

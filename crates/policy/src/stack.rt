@@ -14,7 +14,7 @@ pub struct Stack<A, B> {
 }
 
 impl<A: Policy, B: Policy> Policy for Stack<A, B> {
-    ghost leaves = { λ s. A.Policy.leaves s.first ++ B.Policy.leaves s.second };
+    ghost leaves = { λ s. A.leaves s.first ++ B.leaves s.second };
 
     fn judge(&self, access: &Record) -> (Verdict, u8) {
         stronger(self.first.judge(access), self.second.judge(access))
@@ -37,8 +37,8 @@ fn stronger(first: (Verdict, u8), second: (Verdict, u8)) -> (Verdict, u8)
 }
 
 fn note_both<A: Policy, B: Policy>(first: &mut A, second: &mut B, access: &Record)
-    ensures above { A.Policy.leaves first.new ≡ map (moved access.now) (A.Policy.leaves first.old) }
-    ensures below { B.Policy.leaves second.new ≡ map (moved access.now) (B.Policy.leaves second.old) }
+    ensures above { A.leaves first.new ≡ map (moved access.now) (A.leaves first.old) }
+    ensures below { B.leaves second.new ≡ map (moved access.now) (B.leaves second.old) }
 {
     first.note(access);
     second.note(access);

@@ -3,7 +3,7 @@ use Rattle.std.proofs.Common.{◌≡◌, ℕ, zero, suc, ◌+◌, ◌-◌, ◌*�
 use native.Mathlib.Nat.{zero-div, div-eq_of_lt}
 use lib.Bits.{bit_and, bit_or}
 use Rattle.std.proofs.lemmas.Nat.{pow-add, and_shr, or_shr, and_mod, or_mod, mod-pow-add, shl-shr, pow_below}
-use Rattle.std.proofs.lemmas.Bool.{cases_order, cases_Bool, eqb-false, eqb-true, eq-eqb, ne_eqb, true≢false}
+use Rattle.std.proofs.lemmas.Bool.{cases_order, cases_Bool, eqb-false, eq-eqb, ne_eqb, true≢false}
 use Rattle.std.proofs.lemmas.Bool.Decides.{Decides-below_or, not_from_Decides}
 use Rattle.triples.specs.RowSets.{any_below}
 

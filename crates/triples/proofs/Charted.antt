@@ -10,7 +10,7 @@ use Rattle.associations.specs.Associations.{row_at}
 use Rattle.triples.specs.declared.row_set.RowSet.{RowSet}
 use Rattle.triples.specs.declared.triples.Triples.{Triples}
 use Rattle.triples.specs.RowSets.{has, has_at, no_rows}
-use Rattle.triples.specs.Triples.{Chart, Candidates, row_assigned, row_has, chart_of, no_candidates, triples_leaf}
+use Rattle.triples.specs.Triples.{Chart, row_assigned, row_has, chart_of, no_candidates, triples_leaf}
 use Rattle.triples.specs.Kept.{kept_chart, kept_candidates, kept_leaf}
 use Rattle.triples.proofs.Bits.{bit-zero}
 

@@ -1,5 +1,4 @@
 -- What the sets that the policy keeps stand for.
-use Rattle.std.specs.Prelude.{List, [], ◌∷◌}
 use Rattle.policy.specs.Leaves.{Leaf}
 use Rattle.associations.specs.Associations.{row_at}
 use Rattle.triples.specs.declared.triples.Triples.{Triples}

@@ -1,11 +1,10 @@
 -- The triples policy: which rows are a seat's candidates after what was noted, and the verdict that follows.
-use Rattle.std.specs.Prelude.{ℕ, Bool, true, false, cond, not, ◌&&◌, ◌||◌, List, [], ◌∷◌, Some, None, Option, ◌==◌}
+use Rattle.std.specs.Prelude.{ℕ, Bool, false, cond, not, ◌&&◌, ◌||◌, List, [], ◌∷◌, Some, None, Option, ◌==◌}
 use Rattle.policy.specs.declared.place.Place.{Place}
 use Rattle.policy.specs.declared.record.Record.{Record}
 use Rattle.policy.specs.declared.words.Request.TheVariants.{Alias, ChangeOwner, ChangeRole, Clone, Delete, DeleteData, Execute, GetPermissionsData, GetStatusData, ModifyAccessData, ModifyAttribute, ModifyPermissionsData, ReadAttribute, ReadWriteOpen, ReadOpen, Terminate, Trace, WriteOpen}
 use Rattle.policy.specs.declared.words.Kind.TheVariants.{File}
 use Rattle.policy.specs.declared.words.IntegrityRole.TheVariants.{TpUser, TpManager, IvpUser, IvpManager}
-use Rattle.policy.specs.declared.words.ProgramType.{ProgramType}
 use Rattle.policy.specs.declared.words.ProgramType.TheVariants.{Nil, Tp, Ivp, Tpicd}
 use Rattle.policy.specs.declared.words.DataType.TheVariants.{Cdi, Cdiic}
 use Rattle.policy.specs.declared.words.Verdict.{Verdict}

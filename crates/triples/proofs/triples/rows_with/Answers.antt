@@ -6,7 +6,7 @@ pub loop-place-init : goal.loop-place-init
 loop-place-init c = passed_none _ _ _ c.none-set.ensures.empty
 
 pub loop-place-preserved : goal.loop-place-preserved
-loop-place-preserved c = passed_more _ _ _ _ _ _ c.has-item-passes.ensures c.with-if-set.ensures c.loop-place.invariant
+loop-place-preserved c = passed_more _ _ _ _ _ _ c.has_item-passes.ensures c.with_if-set.ensures c.loop-place.invariant
 
 pub returns : goal.returns
 returns c = passed_all c.args.rows.now _ refl c.loop-place.place (search rules) _ c.loop-place.invariant

@@ -2,8 +2,8 @@ use Rattle.std.proofs.Common.{rules}
 use Rattle.associations.proofs.Chains.{spent, over, found, passed}
 use Rattle.associations.proofs.associations.Associations.lists.Goals as goal
 
-pub returns-in-default : goal.returns-in-default
-returns-in-default c = over _ _ _ _ _ c.loop.invariant c.in-default.is
+pub returns-in_default : goal.returns-in_default
+returns-in_default c = over _ _ _ _ _ c.loop.invariant c.in_default.is
 
 pub returns-then-cell-item : goal.returns-then-cell-item
 returns-then-cell-item c = found _ _ _ _ _ c.loop.invariant _ c.in-Some.is (search rules) c.if-cell-item.true

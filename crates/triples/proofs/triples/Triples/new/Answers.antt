@@ -6,7 +6,7 @@ pub loop-index-init : goal.loop-index-init
 loop-index-init c = charted_none _ _ _ refl
 
 pub loop-index-preserved : goal.loop-index-preserved
-loop-index-preserved c = charted_more _ _ _ _ _ _ c.rows-with.ensures c.loop-index.invariant
+loop-index-preserved c = charted_more _ _ _ _ _ _ c.rows_with.ensures c.loop-index.invariant
 
 pub returns : goal.returns
 returns c =
