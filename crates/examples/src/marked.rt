@@ -131,7 +131,7 @@ fn verdict_after<P: Policy>(
     third: &Record,
     asked: &Record,
 ) -> Verdict
-    ensures { (before : List Leaf) → leaves policy.old ≡ before → result ≡ joined (map (moved third.now) (map (moved second.now) (map (moved first.now) before))) asked.now }
+    ensures { (before : List Leaf) → P.leaves policy.old ≡ before → result ≡ joined (map (moved third.now) (map (moved second.now) (map (moved first.now) before))) asked.now }
 {
     policy.note(first);
     policy.note(second);

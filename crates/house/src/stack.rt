@@ -20,7 +20,7 @@ pub type HouseStack<O> = Stack<
 
 /// The four policies, over a label order and over associations as they stand.
 pub fn house_stack<O: LabelOrder>(order: O, associations: &Associations) -> HouseStack<O>
-    ensures { house_leaves meaning result ≡ new_leaves (meaning order) associations.now }
+    ensures { house_leaves O.meaning result ≡ new_leaves (O.meaning order) associations.now }
 {
     Stack {
         first: FunctionalControl,
@@ -47,7 +47,7 @@ pub struct Opinions {
 
 /// Asks each policy of the stack by itself, and then the stack.
 pub fn hear<O: LabelOrder>(stack: &HouseStack<O>, access: &Record) -> Opinions
-    ensures { Heard (house_leaves meaning stack.now) access.now result }
+    ensures { Heard (house_leaves O.meaning stack.now) access.now result }
 {
     let (control, _) = stack.first.judge(access);
     let (information, _) = stack.second.first.judge(access);

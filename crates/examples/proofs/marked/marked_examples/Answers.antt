@@ -8,4 +8,4 @@ use Rattle.examples.proofs.marked.marked_examples.Goals as goal
 
 pub returns : goal.returns
 unfolding contains placed condition_in on_chain any_below
-returns c = record { found = c.all-answers.ensures; defined = refl }
+returns c = record { found = c.all_answers.ensures; defined = refl }

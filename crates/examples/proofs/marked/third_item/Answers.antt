@@ -10,10 +10,10 @@ use Rattle.examples.proofs.marked.third_item.Goals as goal
 
 pub unwrap-chains-requires : goal.unwrap-chains-requires
 unfolding placed
-unwrap-chains-requires c = ap is_ok c.three-chains.ensures
+unwrap-chains-requires c = ap is_ok c.three_chains.ensures
 
 pub returns : goal.returns
 unfolding placed on_chain any_below
 returns c =
     ap (λ v. Says v ∷ [])
-    (c.verdict-after-verdict.ensures (made_from three_chains ∷ []) (made_alone _ _ _ three_chains c.new-triples.ensures c.unwrap-chains.ensures c.three-chains.ensures))
+    (c.verdict_after-verdict.ensures (made_from three_chains ∷ []) (made_alone _ _ _ three_chains c.new-triples.ensures c.unwrap-chains.ensures c.three_chains.ensures))
