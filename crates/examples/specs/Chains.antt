@@ -1,5 +1,5 @@
 -- Three chains of two items each, as they are added: {1, 2}, {1, 3} and {2, 3}, for user 1 and procedure 10.
-use Rattle.std.specs.Prelude.{Ok, Err, Result}
+use Rattle.std.specs.Prelude.{Result}
 use Rattle.policy.specs.declared.refusal.Refusal.{Refusal}
 use Rattle.policy.specs.Refusals.{go_on}
 use Rattle.associations.specs.declared.associations.Associations.{Associations}
