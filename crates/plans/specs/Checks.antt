@@ -35,6 +35,17 @@ same x = x
 abbrev pub is_file : Object → Bool
 is_file o = kind_number o.kind == kind_number File
 
+abbrev pub is_directory : Object → Bool
+is_directory o = kind_number o.kind == kind_number Directory
+
+abbrev is_some_directory : Option Object → Bool
+is_some_directory None = false
+is_some_directory (Some o) = is_directory o
+
+-- a directory stands at the place
+abbrev pub has_directory : List (Option Object) → Place 64 → Bool
+has_directory objects place = is_some_directory (object_in objects place)
+
 abbrev pub length_of : Option Object → ℕ
 length_of None = 0
 length_of (Some o) = o.length

@@ -1,5 +1,5 @@
 -- What each call would do: its checks in order, of the numbers first and then of the tables, and then its plan.
-use Rattle.std.specs.Prelude.{ℕ, Bool, true, false, cond, not, ◌||◌, List, [], ◌∷◌, replicate, is_some, Some, None, Ok, Option, Result, ◌==◌}
+use Rattle.std.specs.Prelude.{ℕ, Bool, cond, not, replicate, is_some, Some, None, Ok, Result, ◌==◌}
 use Rattle.std.specs.Option.{ok_or}
 use Rattle.policy.specs.declared.place.Place.{Place}
 use Rattle.policy.specs.declared.refusal.Refusal.{Refusal}
@@ -25,7 +25,7 @@ use Rattle.tables.specs.Tables.{modes, no_modes, object_kinds, user_at, process_
 use Rattle.plans.specs.declared.plan.Plan.{Plan}
 use Rattle.plans.specs.declared.call.Call.{Call}
 use Rattle.plans.specs.declared.call.Call.TheVariants as call
-use Rattle.plans.specs.Checks.{a_length, flags, seated, used, is-directory, is_file, has-directory, reads, writes, length_of, some_of, holds, stands_in}
+use Rattle.plans.specs.Checks.{a_length, flags, seated, used, is_directory, is_file, has_directory, reads, writes, length_of, some_of, holds, stands_in}
 use Rattle.plans.specs.Records.{asking, acting, subject_of, target_of, bare_target, no_target, at_home, terminated, no_request, one_request}
 
 -- ---- login: a user asks for a process with a label
@@ -176,7 +176,7 @@ module _ (t : Tables) where
       go_on (word_numbered flags 0 truncate 4) (λ cut.
       go_on (seated t s) (λ p.
       go_on (used t n) (λ o.
-      provided (not (is-directory o)) WrongKind (
+      provided (not (is_directory o)) WrongKind (
       provided (not (has_mode (modes_of p n) m)) HeldSoAlready (
       Ok (open_plan s n m cut p o)))))))))
 
@@ -257,7 +257,7 @@ module _ (t : Tables) where
       go_on (word_numbered object_kinds 1 kind 4) (λ k.
       go_on (seated t s) (λ p.
       provided (not (is_some (object_at t n))) ObjectInUse (
-      provided (has-directory t.objects h) NoSuchHome (
+      provided (has_directory t.objects h) NoSuchHome (
       Ok (create_plan s n h k p))))))))
 
   -- ---- unlink: nobody may hold the object, and nothing may stand in it

@@ -2,7 +2,7 @@
 ghost use Rattle.std.specs.Prelude.{◌≡◌};
 ghost use Rattle.std.specs.Result.{result_map_both};
 ghost use Rattle.tables.specs.Tables.{has_mode};
-ghost use Rattle.plans.specs.Checks.{a_length, seated, used, same, is-directory};
+ghost use Rattle.plans.specs.Checks.{a_length, seated, used, same, is_directory};
 
 use policy::place::Place;
 use policy::refusal::Refusal;
@@ -39,7 +39,7 @@ pub(crate) fn used(tables: &Tables, object: Place<64>) -> Result<&Object, Refusa
 }
 
 pub(crate) fn is_directory(object: &Object) -> bool
-    ensures { result ≡ is-directory object.now }
+    ensures { result ≡ is_directory object.now }
 {
     object.kind == Kind::Directory
 }

@@ -1,7 +1,7 @@
 //! The plans of the calls on objects.
 ghost use Rattle.std.specs.Prelude.{◌≡◌};
 ghost use Rattle.plans.specs.Plans.{opening, checked_open};
-ghost use Rattle.plans.specs.Checks.{is-directory};
+ghost use Rattle.plans.specs.Checks.{is_directory};
 
 use crate::checks::{has, is_directory, seated, used};
 use crate::plan::{Plan, Requests};

@@ -1,5 +1,5 @@
 -- The tables after a change: what it names is other, and all else as it was.
-use Rattle.std.specs.Prelude.{ℕ, Bool, true, false, cond, List, set, Some, None, Option, slice_index_or, slice_set}
+use Rattle.std.specs.Prelude.{ℕ, Bool, true, false, cond, List, Some, None, Option, slice_index_or, slice_set}
 use Rattle.policy.specs.declared.place.Place.{Place}
 use Rattle.policy.specs.declared.words.ProgramType.{ProgramType}
 use Rattle.tables.specs.declared.change.Change.{Change}

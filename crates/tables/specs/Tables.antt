@@ -1,5 +1,5 @@
 -- What stands at each place of the tables.
-use Rattle.std.specs.Prelude.{Bool, true, false, List, [], ◌∷◌, None, Option, slice_index_or}
+use Rattle.std.specs.Prelude.{Bool, false, List, [], ◌∷◌, None, Option, slice_index_or}
 use Rattle.policy.specs.declared.place.Place.{Place}
 use Rattle.policy.specs.declared.words.Kind.{Kind}
 use Rattle.policy.specs.declared.words.Kind.TheVariants.{File, Directory, Ipc}
