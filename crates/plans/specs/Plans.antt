@@ -10,7 +10,7 @@ use Rattle.policy.specs.declared.words.ProgramType.TheVariants.{Nil}
 use Rattle.policy.specs.declared.words.Request.{Request}
 use Rattle.policy.specs.declared.words.Request.TheVariants as ask
 use Rattle.policy.specs.declared.words.Category.TheVariants.{General}
-use Rattle.policy.specs.declared.words.DataType.TheVariants as data-type
+use Rattle.policy.specs.declared.words.DataType.TheVariants as data_type
 use Rattle.policy.specs.Words.{program_number}
 use Rattle.policy.specs.Places.{placed, word_numbered, number_of}
 use Rattle.policy.specs.Refusals.{go_on, provided}
@@ -64,7 +64,7 @@ created home kind label = record {
   label = label;
   category = General;
   program = Nil;
-  content = data-type.Nil;
+  content = data_type.Nil;
   length = 0;
 }
 
