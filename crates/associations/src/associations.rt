@@ -1,21 +1,23 @@
 //! The table of associations: 32 rows and 128 cells, each set once or never.
 ghost use Rattle.std.specs.Prelude.{◌≡◌};
 ghost use Rattle.policy.specs.Refusals.{Added};
-ghost use Rattle.associations.specs.Associations.{none_set, goes_up, stands, added_cell, added_row, cell_at, row_lists};
+ghost use Rattle.associations.specs.Associations.{none_set, stands, added_cell, added_row, cell_at, row_lists};
 
 use crate::rows::{Cell, Row};
 use policy::place::Place;
 use policy::refusal::Refusal;
+use std::iter;
 
 #[derive(Drop)]
 pub struct Associations {
+    // arrays, since nothing may be allocated
     rows: [Option<Row>; 32],
     cells: [Option<Cell>; 128],
 }
 
 impl Associations {
     /// How many cells there are, and so the most that a chain may have.
-    const CELLS: u8 = 128;
+    const CELLS: usize = 128;
 
     /// No row and no cell.
     pub fn new() -> Associations
@@ -27,23 +29,23 @@ impl Associations {
         }
     }
 
-    /// Sets a cell to an item and the next cell of the chain, 0 where the chain ends.
+    /// Sets a cell to an item and the next cell of the chain, 0 where the chain ends; a chain only goes up.
     pub fn add_cell(&mut self, cell: u64, item: u64, next: u64) -> Result<(), Refusal>
         ensures { Added self.old (added_cell self.old cell item next) result self.new }
     {
         let cell = Place::numbered(cell, 1)?;
         let item = Place::numbered(item, 2)?;
         let next = Place::numbered_or_none(next, 3)?;
-        if !is_above(cell, next) {
+        if next.is_some_and(|next| next <= cell) {
             return Err(Refusal::OutOfRange { position: 3 });
         }
-        if self.cells[cell.index as usize].is_some() {
+        if self.cells[usize::from(cell)].is_some() {
             return Err(Refusal::SetTwice);
         }
         if !self.has_chain_at(next) {
             return Err(Refusal::CellNotSet);
         }
-        self.cells[cell.index as usize] = Some(Cell { item, next });
+        self.cells[usize::from(cell)] = Some(Cell { item, next });
         Ok(())
     }
 
@@ -55,13 +57,13 @@ impl Associations {
         let user = Place::numbered(user, 2)?;
         let procedure = Place::numbered(procedure, 3)?;
         let head = Place::numbered_or_none(head, 4)?;
-        if self.rows[row.index as usize].is_some() {
+        if self.rows[usize::from(row)].is_some() {
             return Err(Refusal::SetTwice);
         }
         if !self.has_chain_at(head) {
             return Err(Refusal::CellNotSet);
         }
-        self.rows[row.index as usize] = Some(Row {
+        self.rows[usize::from(row)] = Some(Row {
             user,
             procedure,
             head,
@@ -80,24 +82,16 @@ impl Associations {
     pub fn lists(&self, row: &Row, item: Place<64>) -> bool
         ensures { result ≡ row_lists self.now.cells row.now item }
     {
-        let mut at = self.cell(row.head);
-        for _ in 0..Self::CELLS {
-            let Some(cell) = at else {
-                return false;
-            };
-            if cell.item.index == item.index {
-                return true;
-            }
-            at = self.cell(cell.next);
-        }
-        false
+        iter::successors(self.cell(row.head), |cell| self.cell(cell.next))
+            .take(Self::CELLS)
+            .any(|cell| cell.item == item)
     }
 
     /// The cell at which a chain begins or goes on, if there is one.
     fn cell(&self, place: Option<Place<128>>) -> Option<Cell>
         ensures { result ≡ cell_at self.now.cells place }
     {
-        self.cells[place?.index as usize]
+        self.cells[usize::from(place?)]
     }
 
     /// Whether a chain may begin or go on at the cell: it stands, or the chain ends.
@@ -105,15 +99,5 @@ impl Associations {
         ensures { result ≡ stands self.now.cells place }
     {
         place.is_none() || self.cell(place).is_some()
-    }
-}
-
-/// Whether the next cell is above its own, so that a chain only goes up.
-fn is_above(cell: Place<128>, next: Option<Place<128>>) -> bool
-    ensures { result ≡ goes_up cell next }
-{
-    match next {
-        Some(next) => cell.index < next.index,
-        None => true,
     }
 }

@@ -9,7 +9,8 @@ pub struct Row {
     pub head: Option<Place<128>>,
 }
 
-/// An item of a chain, and the cell with which the chain goes on, if it does.
+/// An item of a chain, and the cell with which the chain goes on, if it does. It is a place in the table of cells and not a `Box`:
+/// nothing may be allocated, and set-up gives cells by their numbers.
 #[derive(Clone, Copy)]
 pub struct Cell {
     pub item: Place<64>,

@@ -7,7 +7,7 @@ mod stacked;
 mod tries;
 mod words;
 
-use anyhow::anyhow;
+use anyhow::Context;
 use examples::chains::three_chains;
 use examples::marked::{Answer, marked_examples};
 use label_policies::label_listing::label_rows;
@@ -19,7 +19,7 @@ use policy::words::{Kind, Request};
 use stacked::{print_asked, print_routine};
 use std::io;
 use tries::{TRIES, Try};
-use words::{answer_name, condition_words, kind_name, request_name, verdict_name};
+use words::condition_words;
 
 /// The steps of the ladder that the table is tried on.
 const STEPS: u64 = 4;
@@ -50,78 +50,71 @@ fn print_table(rt: &HostRuntime) -> anyhow::Result<()> {
     let count = rows.len();
     println!(rt; "Label table: {count} rows, the one for entering among them")?;
     println!(rt; "{ROW_HEADS}")?;
-    for (i, row) in rows.iter().enumerate() {
-        print_row(rt, i, row)?;
+    for (number, row) in (1..=count).zip(&rows) {
+        print_row(rt, number, row)?;
     }
     Ok(())
 }
 
-fn print_row(rt: &HostRuntime, i: usize, row: &Row) -> io::Result<()> {
-    let number = i.saturating_add(1);
+fn print_row(rt: &HostRuntime, number: usize, row: &Row) -> io::Result<()> {
     let needs = condition_words(row);
     print!(rt; "{number:>3}  ")?;
     print_place(rt, row.request, row.kind)?;
     println!(rt; "{needs}")
 }
 
-/// The columns of a request and a kind.
+/// The columns of a request and a kind, which a row and a try have beside other things, so that they are no struct.
 fn print_place(rt: &HostRuntime, request: Request, kind: Kind) -> io::Result<()> {
-    let request_number = request.number();
-    let request_name = request_name(request);
-    let kind_number = kind.number();
-    let kind_name = kind_name(kind);
-    print!(rt; "{request_number:>2} {request_name:<23}  ")?;
-    print!(rt; "{kind_number} {kind_name:<9}  ")
+    let request_number = u8::from(request);
+    let kind_number = u8::from(kind);
+    print!(rt; "{request_number:>2} {request:<23}  ")?;
+    print!(rt; "{kind_number} {kind:<9}  ")
 }
 
 fn print_tries(rt: &HostRuntime) -> anyhow::Result<()> {
-    let Some(ladder) = Ladder::new(STEPS) else {
-        return Err(anyhow!("a ladder has 1 to 256 steps"));
-    };
+    let ladder = Ladder::new(STEPS).context("a ladder has 1 to 256 steps")?;
     let top = STEPS - 1;
     println!(rt; "Tries on a ladder of {STEPS} steps, labels 0 to {top}")?;
     println!(rt; "{TRY_HEADS}")?;
-    for t in TRIES {
-        print_try(rt, &ladder, &t)?;
+    for tried in TRIES {
+        print_try(rt, &ladder, tried)?;
     }
     Ok(())
 }
 
-fn print_try(rt: &HostRuntime, ladder: &Ladder, t: &Try) -> io::Result<()> {
-    let verdict = label_verdict(ladder, t.request, t.kind, t.process, t.object);
-    let process = t.process;
-    let object = t.object;
-    let number = verdict.number();
-    let name = verdict_name(verdict);
-    let what = t.what;
+fn print_try(rt: &HostRuntime, ladder: &Ladder, tried: Try) -> io::Result<()> {
+    let Try {
+        request,
+        kind,
+        process,
+        object,
+        what,
+    } = tried;
+    let verdict = label_verdict(ladder, request, kind, process, object);
+    let number = u8::from(verdict);
     print!(rt; "{process:>7}  {object:>6}  ")?;
-    print_place(rt, t.request, t.kind)?;
-    print!(rt; "{number} {name:<9}  ")?;
+    print_place(rt, request, kind)?;
+    print!(rt; "{number} {verdict:<9}  ")?;
     println!(rt; "{what}")
 }
 
 fn print_examples(rt: &HostRuntime) -> io::Result<()> {
     println!(rt; "Marked examples")?;
     println!(rt; "{EXAMPLE_HEADS}")?;
-    let answers = marked_examples();
-    for (i, question) in QUESTIONS.iter().enumerate() {
-        print_example(rt, question, answers[i])?;
+    for (question, answer) in QUESTIONS.into_iter().zip(marked_examples()) {
+        print_example(rt, question, answer)?;
     }
     Ok(())
 }
 
-fn print_example(rt: &HostRuntime, question: &Question, answer: Answer) -> io::Result<()> {
-    let mark = question.mark;
-    let name = answer_name(answer);
-    let what = question.what;
-    print!(rt; "{mark:>4}  {name:<9}  ")?;
+fn print_example(rt: &HostRuntime, question: Question, answer: Answer) -> io::Result<()> {
+    let Question { mark, what } = question;
+    print!(rt; "{mark:>4}  {answer:<9}  ")?;
     println!(rt; "{what}")
 }
 
 fn print_stack(rt: &HostRuntime) -> anyhow::Result<()> {
-    let Ok(chains) = three_chains() else {
-        return Err(anyhow!("a cell or a row of the three chains is refused"));
-    };
+    let chains = three_chains().context("a cell or a row of the three chains is refused")?;
     print_asked(rt, &chains)?;
     println!(rt)?;
     print_routine(rt, &chains)?;

@@ -7,7 +7,7 @@ pub struct Question {
     pub what: &'static str,
 }
 
-/// In the order in which `marked_examples` answers them.
+/// In the order in which `marked_examples` answers them. The answers are no part of a question: they are promised by a contract.
 pub const QUESTIONS: [Question; 13] = [
     Question {
         mark: 1,

@@ -1,8 +1,7 @@
 //! What the stack of four says: of records by themselves, and of a release routine as it goes along.
-use crate::asked::{ASKED, Asked, ROUTINE, Step};
-use crate::words::verdict_name;
+use crate::asked::{Asked, all_asked, routine};
 use associations::associations::Associations;
-use house::stack::{HouseStack, hear, house_stack};
+use house::stack::{HouseStack, Opinions, hear, house_stack};
 use labels::compartments::Compartments;
 use policy::interface::Policy;
 use policy::record::Record;
@@ -18,15 +17,15 @@ pub(crate) fn print_asked(rt: &HostRuntime, chains: &Associations) -> io::Result
     )?;
     println!(rt; "{HEADS}the first record, then what is other in each")?;
     let stack = house_stack(Compartments, chains);
-    for asked in ASKED {
+    for asked in all_asked() {
         print_one(rt, &stack, asked)?;
     }
     Ok(())
 }
 
 fn print_one(rt: &HostRuntime, stack: &HouseStack<Compartments>, asked: Asked) -> io::Result<()> {
-    let what = asked.what;
-    print_heard(rt, stack, &asked.change.record())?;
+    let Asked { access, what } = asked;
+    print_heard(rt, stack, &access)?;
     println!(rt; "{what}")
 }
 
@@ -37,7 +36,7 @@ pub(crate) fn print_routine(rt: &HostRuntime, chains: &Associations) -> io::Resu
     )?;
     println!(rt; "{HEADS}what it does")?;
     let mut stack = house_stack(Compartments, chains);
-    for step in ROUTINE {
+    for step in routine() {
         print_step(rt, &mut stack, step)?;
     }
     Ok(())
@@ -46,10 +45,9 @@ pub(crate) fn print_routine(rt: &HostRuntime, chains: &Associations) -> io::Resu
 fn print_step(
     rt: &HostRuntime,
     stack: &mut HouseStack<Compartments>,
-    step: Step,
+    step: Asked,
 ) -> io::Result<()> {
-    let access = step.record();
-    let what = step.words();
+    let Asked { access, what } = step;
     if print_heard(rt, stack, &access)?.grants() {
         stack.note(&access);
         println!(rt; "{what}: granted, and noted")
@@ -64,16 +62,17 @@ fn print_heard(
     stack: &HouseStack<Compartments>,
     access: &Record,
 ) -> io::Result<Verdict> {
-    let heard = hear(stack, access);
-    let control = verdict_name(heard.control);
-    let information = verdict_name(heard.information);
-    let triples = verdict_name(heard.triples);
-    let labels = verdict_name(heard.labels);
-    let number = heard.joined.number();
-    let joined = verdict_name(heard.joined);
-    let named = heard.named;
+    let Opinions {
+        control,
+        information,
+        triples,
+        labels,
+        joined,
+        named,
+    } = hear(stack, access);
+    let number = u8::from(joined);
     print!(rt; "{control:<9}  {information:<11}  ")?;
     print!(rt; "{triples:<9}  {labels:<9}  ")?;
     print!(rt; "{number} {joined:<9}  {named:>4}  ")?;
-    Ok(heard.joined)
+    Ok(joined)
 }

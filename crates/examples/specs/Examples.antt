@@ -1,5 +1,5 @@
 -- Eight marked examples as one table: to each question its answer.
-use Rattle.std.specs.Prelude.{◌≡◌, ℕ, ◌-◌, true, false, cond, ◌&&◌, T, List, [], ◌∷◌, map, Some, Ok, Err, Result, nat_le, nat_lt}
+use Rattle.std.specs.Prelude.{◌≡◌, ℕ, ◌-◌, true, false, cond, ◌&&◌, T, List, [], ◌∷◌, map, Some, Ok, Err, Result, nat_le, nat_lt, codes}
 use Rattle.std.proofs.Common.{lit≤}
 use Rattle.labels.specs.Orders.{Order, ladder, compartments}
 use Rattle.policy.specs.declared.place.Place.{Place}
@@ -17,7 +17,8 @@ use Rattle.policy.specs.declared.words.ProgramType.{ProgramType}
 use Rattle.policy.specs.declared.words.Category.TheVariants.{General}
 use Rattle.policy.specs.declared.words.DataType.{DataType}
 use Rattle.policy.specs.declared.words.Verdict.TheVariants.{DontCare, Yes, No, Undefined}
-use Rattle.policy.specs.Leaves.{Leaf, silent}
+use Rattle.policy.specs.Names.{verdict_name}
+use Rattle.policy.specs.Leaves.{Leaf, moved, silent}
 use Rattle.roles.specs.Roles.{security_information_leaf}
 use Rattle.label_policies.specs.LabelPolicy.{label_leaf}
 use Rattle.associations.specs.declared.associations.Associations.{Associations}
@@ -25,6 +26,12 @@ use Rattle.triples.specs.Triples.{chart_of, no_candidates, triples_leaf}
 use Rattle.examples.specs.declared.marked.Answer.{Answer}
 use Rattle.examples.specs.declared.marked.Answer.TheVariants.{Holds, Says}
 use Rattle.examples.specs.Chains.{three_chains}
+
+-- as it is printed
+abbrev pub answer_words : Answer → List ℕ
+answer_words (Holds true) = codes "yes"
+answer_words (Holds false) = codes "no"
+answer_words (Says verdict) = verdict_name verdict
 
 pub data Question : Type 0 where
   -- is the code lawful
@@ -81,6 +88,11 @@ open_item item = record {
   subject = router ProgramType.Tp 65537;
   target = object item File ProgramType.Nil DataType.Cdi 65537;
 }
+
+-- leaves once these records have been noted, the oldest first
+abbrev pub moved_by : List Record → List Leaf → List Leaf
+moved_by [] leaves = leaves
+moved_by (noted ∷ later) leaves = moved_by later (map (moved noted) leaves)
 
 abbrev pub made_from : Result Associations Refusal → Leaf
 made_from (Ok associations) = triples_leaf (chart_of associations) no_candidates

@@ -27,6 +27,9 @@ ruled order (Some Dominates) process object = compared order process object (ord
 abbrev pub label_verdict : List Row → Order → Request → Kind → ℕ → ℕ → Verdict
 label_verdict table order request kind process object = ruled order (condition_in table request kind) process object
 
+abbrev pub label_number : ℕ
+label_number = 1
+
 -- the label policy over an order: it goes by the request, the kind and the two labels, and by nothing that was noted
 abbrev pub label_leaf : Order → Leaf
-label_leaf order = steady 1 (λ q. label_verdict rows order q.request q.target.kind q.subject.label q.target.label)
+label_leaf order = steady label_number (λ q. label_verdict rows order q.request q.target.kind q.subject.label q.target.label)

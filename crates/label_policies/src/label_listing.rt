@@ -1,6 +1,6 @@
 //! The rows of the label table as a list, to be counted and printed.
 ghost use Rattle.std.specs.Prelude.{◌≡◌, ◌++◌, IfOk, OnOk};
-ghost use Rattle.label_policies.specs.LabelTable.{rows as the_rows};
+ghost use Rattle.label_policies.specs.LabelTable.{rows};
 ghost use Rattle.label_policies.specs.Listing.{row_at, rows_of, Listed};
 
 use crate::label_table::{Row, condition_of};
@@ -20,21 +20,21 @@ pub fn label_rows(heap: Global) -> Result<Vec<Row>, AllocError>
 }
 
 /// Adds the rows of one request, by kind.
-fn add_rows_of(rows: &mut Vec<Row>, request: Request) -> Result<(), AllocError>
-    ensures { OnOk result (rows.new.items ≡ rows.old.items ++ rows_of the_rows request) }
+fn add_rows_of(list: &mut Vec<Row>, request: Request) -> Result<(), AllocError>
+    ensures { OnOk result (list.new.items ≡ list.old.items ++ rows_of rows request) }
 {
     for kind in Kind::ALL {
-        add_row(rows, request, kind)?;
+        add_row(list, request, kind)?;
     }
     Ok(())
 }
 
-/// Adds the row of a request and a kind, if there is one.
-fn add_row(rows: &mut Vec<Row>, request: Request, kind: Kind) -> Result<(), AllocError>
-    ensures { OnOk result (rows.new.items ≡ rows.old.items ++ row_at the_rows request kind) }
+/// Adds the row of a request and a kind, if there is one. They come from two loops, so they are no struct.
+fn add_row(list: &mut Vec<Row>, request: Request, kind: Kind) -> Result<(), AllocError>
+    ensures { OnOk result (list.new.items ≡ list.old.items ++ row_at rows request kind) }
 {
     if let Some(condition) = condition_of(request, kind) {
-        rows.push(Row {
+        list.push(Row {
             request,
             kind,
             condition,

@@ -1,13 +1,13 @@
 //! The label policy: mandatory labels, over any label order.
-ghost use Rattle.std.specs.Prelude.{◌≡◌, [], ◌∷◌};
+ghost use Rattle.std.specs.Prelude.{◌≡◌};
 ghost use Rattle.policy.specs.Leaves.{says};
 ghost use Rattle.label_policies.specs.LabelTable.{rows};
-ghost use Rattle.label_policies.specs.LabelPolicy.{ruled, label_verdict, label_leaf};
+ghost use Rattle.label_policies.specs.LabelPolicy.{ruled, label_verdict, label_number, label_leaf};
 ghost use Rattle.label_policies.specs.Flows.{LearnerDominates, ChangedDominates};
 
 use crate::label_table::{Condition, condition_of};
 use labels::order::LabelOrder;
-use policy::interface::Policy;
+use policy::interface::Rule;
 use policy::record::Record;
 use policy::words::{Kind, Request, Verdict};
 
@@ -17,26 +17,27 @@ pub struct MandatoryLabels<O> {
     pub order: O,
 }
 
-impl<O: LabelOrder> Policy for MandatoryLabels<O> {
-    ghost leaves = { λ s. label_leaf (O.meaning s.order) ∷ [] };
+impl<O: LabelOrder> Rule for MandatoryLabels<O> {
+    ghost NUMBER = { label_number };
 
-    fn judge(&self, access: &Record) -> (Verdict, u8) {
-        verdict(&self.order, access).by(1)
+    ghost says = { λ labels. says (label_leaf (O.meaning labels.order)) };
+
+    const NUMBER: u8 = 1;
+
+    fn verdict(&self, access: &Record) -> Verdict {
+        label_verdict(
+            &self.order,
+            access.request,
+            access.target.kind,
+            access.subject.label,
+            access.target.label,
+        )
     }
-
-    fn note(&mut self, _access: &Record) {}
-}
-
-fn verdict<O: LabelOrder>(order: &O, access: &Record) -> Verdict
-    ensures { result ≡ says (label_leaf (O.meaning order.now)) access.now }
-{
-    let process = access.subject.label;
-    let object = access.target.label;
-    label_verdict(order, access.request, access.target.kind, process, object)
 }
 
 /// What the label policy says of a request by a process with one label on an object with another.
 /// Where it says YES, whoever learns dominates what it learns of, and what is changed dominates whoever changes it.
+/// It takes request, kind and labels, and no struct of them: so it can be seen that it goes by nothing else.
 pub fn label_verdict<O: LabelOrder>(
     order: &O,
     request: Request,

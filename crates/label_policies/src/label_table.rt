@@ -67,10 +67,11 @@ fn conditions() -> &'static [[Option<Condition>; 5]; 25]
     &CONDITIONS
 }
 
-/// What the row of a request and a kind needs, or none where there is no such row.
+/// What the row of a request and a kind needs, or none where there is no such row. Callers have the two apart, so they are no struct.
 pub fn condition_of(request: Request, kind: Kind) -> Option<Condition>
     ensures { result ≡ condition_in rows request kind }
 {
-    let table = conditions();
-    table[request.number() as usize - 1][kind.number() as usize]
+    let number = u8::from(request);
+    let column = u8::from(kind);
+    conditions()[usize::from(number - 1)][usize::from(column)]
 }

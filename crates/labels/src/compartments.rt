@@ -1,6 +1,6 @@
 //! Compartments: a label is a level and a set of members.
 ghost use Rattle.std.specs.Prelude.{◌≡◌};
-ghost use Rattle.labels.specs.Orders.{compartments, contains as has_all_of, level as level_of};
+ghost use Rattle.labels.specs.Orders.{compartments, contains, level};
 ghost use Rattle.labels.specs.Laws.{compartments_laws};
 
 use crate::order::LabelOrder;
@@ -14,14 +14,14 @@ const LEVELS: u64 = 256;
 const SETS: u64 = 65536;
 
 fn level(code: u64) -> u64
-    ensures { result ≡ level_of code }
+    ensures { result ≡ level code }
 {
     code / SETS
 }
 
 /// Whether each member of `b`'s set is in `a`'s.
 fn contains(a: u64, b: u64) -> bool
-    ensures { result ≡ has_all_of a b }
+    ensures { result ≡ contains a b }
 {
     (a & b) % SETS == b % SETS
 }

@@ -20,7 +20,8 @@ impl Ladder {
     pub fn new(steps: u64) -> Option<Ladder>
         ensures { MatchOption result (IsHeight steps → ⊥) (λ l. l.steps ≡ steps) }
     {
-        if steps >= 1 && steps <= Self::MOST {
+        // An `if`: to a closure of `then` the fact about the height would have to be told again.
+        if (1..=Self::MOST).contains(&steps) {
             Some(Ladder { steps })
         } else {
             None

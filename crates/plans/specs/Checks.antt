@@ -28,10 +28,6 @@ seated t seat = ok_or (process_at t seat) SeatEmpty
 abbrev pub used : Tables → Place 64 → Result Object Refusal
 used t object = ok_or (object_at t object) ObjectUnused
 
--- what is not lent stays as it is
-abbrev pub same : {X : Type 0} → X → X
-same x = x
-
 abbrev pub is_file : Object → Bool
 is_file o = kind_number o.kind == kind_number File
 

@@ -1,5 +1,5 @@
 -- What each call would do: its checks in order, of the numbers first and then of the tables, and then its plan.
-use Rattle.std.specs.Prelude.{ℕ, Bool, cond, not, replicate, is_some, Some, None, Ok, Result, ◌==◌}
+use Rattle.std.specs.Prelude.{ℕ, Bool, cond, not, replicate, is_some, [], ◌∷◌, Some, None, Ok, Result, ◌==◌}
 use Rattle.std.specs.Option.{ok_or}
 use Rattle.policy.specs.declared.place.Place.{Place}
 use Rattle.policy.specs.declared.refusal.Refusal.{Refusal}
@@ -133,11 +133,11 @@ module _ (t : Tables) where
   execute_plan seat object p o =
       let who = subject_of t seat p in
       record {
-        requests = record {
-          first = at_home t ask.Search who o.home;
-          second = None;
-          third = Some (asking ask.Execute who (target_of t object));
-        };
+        requests =
+            at_home t ask.Search who o.home
+            ∷ None
+            ∷ Some (asking ask.Execute who (target_of t object))
+            ∷ [];
         ended = None;
         change = Become seat (type_after p.runs o.program);
         answer = program_number (type_after p.runs o.program);
@@ -158,11 +158,11 @@ module _ (t : Tables) where
       let who = subject_of t seat p in
       let what = target_of t object in
       record {
-        requests = record {
-          first = at_home t ask.Search who o.home;
-          second = cond truncate (Some (asking ask.DeleteData who what)) None;
-          third = Some (asking (opening mode) who what);
-        };
+        requests =
+            at_home t ask.Search who o.home
+            ∷ cond truncate (Some (asking ask.DeleteData who what)) None
+            ∷ Some (asking (opening mode) who what)
+            ∷ [];
         ended = None;
         change = Hold seat object mode truncate;
         answer = 0;
@@ -239,11 +239,11 @@ module _ (t : Tables) where
   create_plan seat object home kind p =
       let who = subject_of t seat p in
       record {
-        requests = record {
-          first = at_home t ask.Search who (Some home);
-          second = at_home t ask.Write who (Some home);
-          third = Some (asking ask.Create who (bare_target (Some object) kind p.label));
-        };
+        requests =
+            at_home t ask.Search who (Some home)
+            ∷ at_home t ask.Write who (Some home)
+            ∷ Some (asking ask.Create who (bare_target (Some object) kind p.label))
+            ∷ [];
         ended = None;
         change = Put object (Some (created home kind p.label));
         answer = 0;
@@ -266,11 +266,11 @@ module _ (t : Tables) where
   unlink_plan seat object p o =
       let who = subject_of t seat p in
       record {
-        requests = record {
-          first = at_home t ask.Search who o.home;
-          second = at_home t ask.Write who o.home;
-          third = Some (asking ask.Delete who (target_of t object));
-        };
+        requests =
+            at_home t ask.Search who o.home
+            ∷ at_home t ask.Write who o.home
+            ∷ Some (asking ask.Delete who (target_of t object))
+            ∷ [];
         ended = None;
         change = Put object None;
         answer = 0;

@@ -1,5 +1,5 @@
 -- The records of what a call asks for, made from the tables.
-use Rattle.std.specs.Prelude.{ℕ, Some, None, Option}
+use Rattle.std.specs.Prelude.{ℕ, List, [], ◌∷◌, Some, None, Option}
 use Rattle.policy.specs.declared.place.Place.{Place}
 use Rattle.policy.specs.declared.record.Subject.{Subject}
 use Rattle.policy.specs.declared.record.Target.{Target}
@@ -18,7 +18,6 @@ use Rattle.tables.specs.declared.tables.Process.{Process}
 use Rattle.tables.specs.declared.tables.Object.{Object}
 use Rattle.tables.specs.declared.tables.Tables.{Tables}
 use Rattle.tables.specs.Tables.{user_at, object_at}
-use Rattle.plans.specs.declared.plan.Requests.{Requests}
 
 abbrev pub asking : Request → Subject → Target → Record
 asking request subject target = record { request = request; subject = subject; target = target }
@@ -61,8 +60,9 @@ at_home t request subject (Some home) = Some (asking request subject (target_of 
 abbrev pub terminated : Tables → Place 32 → Process → Record
 terminated t seat p = asking Terminate (subject_of t seat p) (no_target 0)
 
-abbrev pub no_request : Requests
-no_request = record { first = None; second = None; third = None }
+-- the requests of a call: three at most, each at its place, in the order in which they are judged
+abbrev pub no_request : List (Option Record)
+no_request = None ∷ None ∷ None ∷ []
 
-abbrev pub one_request : Record → Requests
-one_request q = record { first = None; second = None; third = Some q }
+abbrev pub one_request : Record → List (Option Record)
+one_request q = None ∷ None ∷ Some q ∷ []

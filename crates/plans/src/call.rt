@@ -1,4 +1,4 @@
-//! The calls on an open vault, with the numbers that they are given.
+//! The calls on an open vault, with the numbers that they are given: bare numbers, of which a wrong one is refused by its position.
 
 #[derive(Clone, Copy)]
 pub enum Call {

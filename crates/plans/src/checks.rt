@@ -1,41 +1,17 @@
 //! What a call looks up before it asks for anything.
 ghost use Rattle.std.specs.Prelude.{◌≡◌};
-ghost use Rattle.std.specs.Result.{result_map_both};
 ghost use Rattle.tables.specs.Tables.{has_mode};
-ghost use Rattle.plans.specs.Checks.{a_length, seated, used, same, is_directory};
+ghost use Rattle.plans.specs.Checks.{a_length, is_directory};
 
-use policy::place::Place;
 use policy::refusal::Refusal;
 use policy::words::Kind;
-use tables::tables::{Mode, Modes, Object, Process, Tables};
+use tables::tables::{Mode, Modes, Object};
 
-/// A length, which is below 2^32; else the refusal that names the position of the number.
+/// A length, which is below 2^32; else the refusal that names the position of the number. The two stay apart, as in `Place::numbered`.
 pub(crate) fn length_of(number: u64, position: u8) -> Result<u32, Refusal>
     ensures { result ≡ a_length number position }
 {
-    if number <= u32::MAX as u64 {
-        Ok(number as u32)
-    } else {
-        Err(Refusal::OutOfRange { position })
-    }
-}
-
-/// The process in a seat.
-pub(crate) fn seated(tables: &Tables, seat: Place<32>) -> Result<&Process, Refusal>
-    ensures { result_map_both (λ x. x.now) same result ≡ seated tables.now seat }
-{
-    tables.processes[seat.index as usize]
-        .as_ref()
-        .ok_or(Refusal::SeatEmpty)
-}
-
-/// The object of a number.
-pub(crate) fn used(tables: &Tables, object: Place<64>) -> Result<&Object, Refusal>
-    ensures { result_map_both (λ x. x.now) same result ≡ used tables.now object }
-{
-    tables.objects[object.index as usize]
-        .as_ref()
-        .ok_or(Refusal::ObjectUnused)
+    u32::try_from(number).map_err(|_| Refusal::OutOfRange { position })
 }
 
 pub(crate) fn is_directory(object: &Object) -> bool

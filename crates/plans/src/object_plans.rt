@@ -3,8 +3,8 @@ ghost use Rattle.std.specs.Prelude.{◌≡◌};
 ghost use Rattle.plans.specs.Plans.{opening, checked_open};
 ghost use Rattle.plans.specs.Checks.{is_directory};
 
-use crate::checks::{has, is_directory, seated, used};
-use crate::plan::{Plan, Requests};
+use crate::checks::{has, is_directory};
+use crate::plan::Plan;
 use crate::records::{at_home, subject, target};
 use policy::numbering::word;
 use policy::place::Place;
@@ -27,34 +27,31 @@ pub(crate) fn plan_open(
     let object = Place::numbered(object, 2)?;
     let mode = word(&Mode::ALL, 1, mode, 3)?;
     let truncate = word(&[false, true], 0, truncate, 4)?;
-    let process = seated(tables, seat)?;
-    let thing = used(tables, object)?;
+    let process = tables.processes[usize::from(seat)]
+        .as_ref()
+        .ok_or(Refusal::SeatEmpty)?;
+    let thing = tables.objects[usize::from(object)]
+        .as_ref()
+        .ok_or(Refusal::ObjectUnused)?;
     if is_directory(thing) {
         return Err(Refusal::WrongKind);
     }
-    if has(process.holds[object.index as usize], mode) {
+    if has(process.holds[usize::from(object)], mode) {
         return Err(Refusal::HeldSoAlready);
     }
     let subject = subject(tables, seat, process);
     let target = target(tables, object);
+    let asking = |request| Record {
+        request,
+        subject,
+        target,
+    };
     Ok(Plan {
-        requests: Requests {
-            first: at_home(tables, Request::Search, subject, thing.home),
-            second: if truncate {
-                Some(Record {
-                    request: Request::DeleteData,
-                    subject,
-                    target,
-                })
-            } else {
-                None
-            },
-            third: Some(Record {
-                request: opening(mode),
-                subject,
-                target,
-            }),
-        },
+        requests: [
+            at_home(tables, Request::Search, subject, thing.home),
+            truncate.then_some(asking(Request::DeleteData)),
+            Some(asking(opening(mode))),
+        ],
         ended: None,
         change: Change::Hold {
             seat,

@@ -2,10 +2,10 @@
 ghost use Rattle.std.specs.Prelude.{◌≡◌};
 ghost use Rattle.plans.specs.Plans.{checked_fork};
 
-use crate::checks::seated;
-use crate::plan::{Plan, Requests};
+use crate::plan::Plan;
 use crate::records::{bare_target, subject};
 use policy::place::Place;
+use policy::record::Record;
 use policy::refusal::Refusal;
 use policy::words::{Kind, Request};
 use tables::change::Change;
@@ -16,22 +16,24 @@ pub(crate) fn plan_fork(tables: &Tables, seat: u64, new: u64) -> Result<Plan, Re
 {
     let seat = Place::numbered(seat, 1)?;
     let new = Place::<32>::numbered(new, 2)?;
-    let process = seated(tables, seat)?;
-    if tables.processes[new.index as usize].is_some() {
+    let process = tables.processes[usize::from(seat)]
+        .as_ref()
+        .ok_or(Refusal::SeatEmpty)?;
+    if tables.processes[usize::from(new)].is_some() {
         return Err(Refusal::SeatTaken);
     }
-    let clone = Requests::one(
-        Request::Clone,
-        subject(tables, seat, process),
-        bare_target(None, Kind::NoObject, 0),
-    );
+    let clone = Record {
+        request: Request::Clone,
+        subject: subject(tables, seat, process),
+        target: bare_target(None, Kind::NoObject, 0),
+    };
     Ok(Plan {
-        requests: clone,
+        requests: [None, None, Some(clone)],
         ended: None,
         change: Change::Seat {
             seat: new,
             process: Some(*process),
         },
-        answer: new.number() as u64,
+        answer: u64::from(new.number()),
     })
 }

@@ -1,8 +1,7 @@
 //! Records of what a call asks for, made from the tables.
 ghost use Rattle.std.specs.Prelude.{◌≡◌};
-ghost use Rattle.plans.specs.Records.{subject_of, target_of, bare_target, at_home, asking, one_request};
+ghost use Rattle.plans.specs.Records.{subject_of, target_of, bare_target, at_home};
 
-use crate::plan::Requests;
 use policy::place::Place;
 use policy::record::{Record, Subject, Target};
 use policy::words::{Category, DataType, IntegrityRole, Kind, ProgramType, Request, SystemRole};
@@ -12,10 +11,10 @@ use tables::tables::{Process, Tables};
 pub(crate) fn subject(tables: &Tables, seat: Place<32>, process: &Process) -> Subject
     ensures { result ≡ subject_of tables.now seat process.now }
 {
-    let (role, integrity) = match tables.users[process.owner.index as usize] {
-        Some(user) => (user.role, user.integrity),
-        None => (SystemRole::User, IntegrityRole::Nil),
-    };
+    let (role, integrity) = tables.users[usize::from(process.owner)].map_or(
+        (SystemRole::User, IntegrityRole::Nil),
+        |user| (user.role, user.integrity),
+    );
     Subject {
         seat,
         owner: process.owner,
@@ -30,7 +29,7 @@ pub(crate) fn subject(tables: &Tables, seat: Place<32>, process: &Process) -> Su
 pub(crate) fn target(tables: &Tables, object: Place<64>) -> Target
     ensures { result ≡ target_of tables.now object }
 {
-    match tables.objects[object.index as usize].as_ref() {
+    match &tables.objects[usize::from(object)] {
         Some(thing) => Target {
             object: Some(object),
             kind: thing.kind,
@@ -57,7 +56,7 @@ pub(crate) fn bare_target(object: Option<Place<64>>, kind: Kind, label: u64) -> 
     }
 }
 
-/// A request on a home; it falls away where there is none.
+/// A request on a home; it falls away where there is none. Request and subject are no struct: they are a record but for its target.
 pub(crate) fn at_home(
     tables: &Tables,
     request: Request,
@@ -66,26 +65,9 @@ pub(crate) fn at_home(
 ) -> Option<Record>
     ensures { result ≡ at_home tables.now request subject home }
 {
-    Some(Record {
+    home.map(|home| Record {
         request,
         subject,
-        target: target(tables, home?),
+        target: target(tables, home),
     })
-}
-
-impl Requests {
-    /// One request alone.
-    pub(crate) fn one(request: Request, subject: Subject, target: Target) -> Requests
-        ensures { result ≡ one_request (asking request subject target) }
-    {
-        Requests {
-            first: None,
-            second: None,
-            third: Some(Record {
-                request,
-                subject,
-                target,
-            }),
-        }
-    }
 }

@@ -32,8 +32,10 @@ placed_inside N (suc index) position low h =
     let k : index < N = omega arith in
     ap Ok (same_place N (suc index - 1) index h k (omega arith)) ∙ tested_in N index position k (ltb index N) refl
 
-pub placed_outside : (N n position : ℕ) → (1 ≤ n → n ≤ N → ⊥)
+pub placed_outside : (N n position : ℕ) → (1 ≤ n → n - 1 < N → ⊥)
     → ◌≡◌ {A = Result (Place N) Refusal} (Err (OutOfRange position)) (placed N n position)
 unfolding placed
 placed_outside N zero position out = refl
-placed_outside N (suc index) position out = tested_out N index position (omega (arith, out)) (ltb index N) refl
+placed_outside N (suc index) position out =
+    let past : index < N → ⊥ = λ h. out (omega arith) (omega arith) in
+    tested_out N index position (omega (arith, past)) (ltb index N) refl

@@ -3,3 +3,4 @@ pub mod Refusals
 pub mod Places
 pub mod Leaves
 pub mod Records
+pub mod Names

@@ -2,6 +2,7 @@
 #![tactic(auto)]
 
 pub mod interface;
+mod names;
 pub mod numbering;
 pub mod place;
 pub mod record;

@@ -5,12 +5,15 @@ ghost use Rattle.policy.specs.Places.{placed, placed_or_none, number_of, word_nu
 use crate::place::Place;
 use crate::refusal::Refusal;
 
+// A number and its position stay two arguments: `Place::numbered(seat, 1)` reads as the rule does, and a struct of both would be made only
+// to be taken apart.
 impl<const N: u8> Place<N> {
     /// The place of a number from 1 to `N`; where it is outside, the refusal that names its position.
     pub fn numbered(number: u64, position: u8) -> Result<Place<N>, Refusal>
         ensures { result ≡ placed N number position }
     {
-        if is_number(number, N) {
+        if is_among(number, 1, u64::from(N)) {
+            // `as`, here and below, is proved to lose nothing: `try_from` would have an error that cannot come.
             let index = (number - 1) as u8;
             Ok(Place { index })
         } else {
@@ -25,17 +28,18 @@ impl<const N: u8> Place<N> {
         if number == 0 {
             return Ok(None);
         }
-        let place = Place::numbered(number, position)?;
-        Ok(Some(place))
+        Place::numbered(number, position).map(Some)
     }
 
-    /// Its number, from 1.
+    /// Its number, from 1. It is no `From`, since a place is two numbers: this and its index.
     pub fn number(self) -> u8
         ensures { result ≡ number_of self.entry }
     {
         self.index + 1
     }
 }
+
+// Number and position stay two arguments here too.
 
 /// The word of a number, where the words are numbered one by one from the first on; where the number is of none, the
 /// refusal that names its position.
@@ -47,13 +51,6 @@ pub fn word<W: Copy>(words: &[W], first: u64, number: u64, position: u8) -> Resu
     } else {
         Err(Refusal::OutOfRange { position })
     }
-}
-
-/// Whether it is a number from 1 to a count.
-fn is_number(number: u64, count: u8) -> bool
-    ensures { Decides result ((1 ≤ number) × (number ≤ count)) }
-{
-    number >= 1 && number <= count as u64
 }
 
 /// Whether it is one of so many numbers, counted from the first on.

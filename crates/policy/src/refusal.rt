@@ -4,7 +4,7 @@ ghost use Rattle.policy.specs.Refusals.{refusal_code};
 
 use crate::words::Request;
 
-#[derive(Clone, Copy)]
+#[derive(Clone, Copy, Debug, PartialEq, Eq)]
 pub enum Refusal {
     /// A number is outside its range: the first such position among the numbers given, counted from 1.
     OutOfRange { position: u8 },
@@ -35,39 +35,35 @@ pub enum Refusal {
     Undefined { request: Request, policy: u8 },
 }
 
-/// A refusal as it is reported: its number and the two values that it names, 0 where it names none.
-#[derive(Clone, Copy)]
+/// A refusal as a log has it, in numbers only: its own and the two values that it names, 0 where it names none.
+#[derive(Clone, Copy, Debug, PartialEq, Eq)]
 pub struct RefusalCode {
     pub number: u8,
     pub first: u8,
     pub second: u8,
 }
 
-impl Refusal {
-    pub fn code(self) -> RefusalCode
-        ensures { result ≡ refusal_code self }
-    {
-        let (number, first) = match self {
-            Refusal::OutOfRange { position } => (3, position),
-            Refusal::SeatEmpty => (11, 0),
-            Refusal::SeatTaken => (12, 0),
-            Refusal::NoSuchUser => (13, 0),
-            Refusal::ObjectUnused => (14, 0),
-            Refusal::ObjectInUse => (15, 0),
-            Refusal::NoSuchHome => (16, 0),
-            Refusal::Held => (17, 0),
-            Refusal::HomeOfAnother => (18, 0),
-            Refusal::NotHeldSo => (19, 0),
-            Refusal::HeldSoAlready => (20, 0),
-            Refusal::WrongKind => (21, 0),
-            Refusal::SetTwice => (22, 0),
-            Refusal::CellNotSet => (23, 0),
-            Refusal::Denied { request, .. } => (51, request.number()),
-            Refusal::Undefined { request, .. } => (52, request.number()),
-        };
-        let second = match self {
-            Refusal::Denied { policy, .. } | Refusal::Undefined { policy, .. } => policy,
-            _ => 0,
+impl From<Refusal> for RefusalCode {
+    ghost from_gives = { λ refusal code. code ≡ refusal_code refusal };
+
+    fn from(refusal: Refusal) -> RefusalCode {
+        let (number, first, second) = match refusal {
+            Refusal::OutOfRange { position } => (3, position, 0),
+            Refusal::SeatEmpty => (11, 0, 0),
+            Refusal::SeatTaken => (12, 0, 0),
+            Refusal::NoSuchUser => (13, 0, 0),
+            Refusal::ObjectUnused => (14, 0, 0),
+            Refusal::ObjectInUse => (15, 0, 0),
+            Refusal::NoSuchHome => (16, 0, 0),
+            Refusal::Held => (17, 0, 0),
+            Refusal::HomeOfAnother => (18, 0, 0),
+            Refusal::NotHeldSo => (19, 0, 0),
+            Refusal::HeldSoAlready => (20, 0, 0),
+            Refusal::WrongKind => (21, 0, 0),
+            Refusal::SetTwice => (22, 0, 0),
+            Refusal::CellNotSet => (23, 0, 0),
+            Refusal::Denied { request, policy } => (51, u8::from(request), policy),
+            Refusal::Undefined { request, policy } => (52, u8::from(request), policy),
         };
         RefusalCode {
             number,

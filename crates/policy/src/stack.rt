@@ -1,6 +1,6 @@
 //! Two policies as one.
-ghost use Rattle.std.specs.Prelude.{◌≡◌, ◌++◌, map};
-ghost use Rattle.policy.specs.Leaves.{moved, prevailing};
+ghost use Rattle.std.specs.Prelude.{◌≡◌, ◌++◌};
+ghost use Rattle.policy.specs.Leaves.{prevailing};
 
 use crate::interface::Policy;
 use crate::record::Record;
@@ -21,7 +21,8 @@ impl<A: Policy, B: Policy> Policy for Stack<A, B> {
     }
 
     fn note(&mut self, access: &Record) {
-        note_both(&mut self.first, &mut self.second, access);
+        self.first.note(access);
+        self.second.note(access);
     }
 }
 
@@ -29,17 +30,5 @@ impl<A: Policy, B: Policy> Policy for Stack<A, B> {
 fn stronger(first: (Verdict, u8), second: (Verdict, u8)) -> (Verdict, u8)
     ensures { result ≡ prevailing first second }
 {
-    if first.0.number() < second.0.number() {
-        second
-    } else {
-        first
-    }
-}
-
-fn note_both<A: Policy, B: Policy>(first: &mut A, second: &mut B, access: &Record)
-    ensures above { A.leaves first.new ≡ map (moved access.now) (A.leaves first.old) }
-    ensures below { B.leaves second.new ≡ map (moved access.now) (B.leaves second.old) }
-{
-    first.note(access);
-    second.note(access);
+    if first.0 < second.0 { second } else { first }
 }

@@ -3,7 +3,7 @@ ghost use Rattle.std.specs.Prelude.{◌≡◌, ◌≤◌};
 ghost use Rattle.policy.specs.Words.{request_number, kind_number, verdict_number, yes_or_no, grants};
 
 /// What a process asks for, numbered from 1.
-#[derive(Clone, Copy)]
+#[derive(Clone, Copy, Debug, PartialEq, Eq)]
 pub enum Request {
     Alias = 1,
     Alter,
@@ -33,7 +33,7 @@ pub enum Request {
 }
 
 /// What the request is made on: no object, an object of a kind, or an object's control data (scd).
-#[derive(Clone, Copy, PartialEq, Eq)]
+#[derive(Clone, Copy, Debug, PartialEq, Eq)]
 pub enum Kind {
     NoObject,
     File,
@@ -43,7 +43,7 @@ pub enum Kind {
 }
 
 /// What a user is to the machine.
-#[derive(Clone, Copy)]
+#[derive(Clone, Copy, Debug, PartialEq, Eq)]
 pub enum SystemRole {
     User,
     SecurityOfficer,
@@ -52,7 +52,7 @@ pub enum SystemRole {
 
 /// What a user is to the constrained items: who runs or who manages transformation procedures (TP) or verification
 /// procedures (IVP), or neither.
-#[derive(Clone, Copy, PartialEq, Eq)]
+#[derive(Clone, Copy, Debug, PartialEq, Eq)]
 pub enum IntegrityRole {
     Nil,
     TpUser,
@@ -63,7 +63,7 @@ pub enum IntegrityRole {
 
 /// The type of a program, and of a process by the program that it runs: none, a transformation procedure, a
 /// verification procedure, or a procedure on integrity-control data.
-#[derive(Clone, Copy, PartialEq, Eq)]
+#[derive(Clone, Copy, Debug, PartialEq, Eq)]
 pub enum ProgramType {
     Nil,
     Tp,
@@ -72,7 +72,7 @@ pub enum ProgramType {
 }
 
 /// Whom an object is for.
-#[derive(Clone, Copy)]
+#[derive(Clone, Copy, Debug, PartialEq, Eq)]
 pub enum Category {
     General,
     Security,
@@ -80,7 +80,7 @@ pub enum Category {
 }
 
 /// The type of an object's data: none, a constrained item, integrity-control data, or security information.
-#[derive(Clone, Copy, PartialEq, Eq)]
+#[derive(Clone, Copy, Debug, PartialEq, Eq)]
 pub enum DataType {
     Nil,
     Cdi,
@@ -89,7 +89,7 @@ pub enum DataType {
 }
 
 /// What a policy says: it does not care, it consents, it denies, or it has no rule for such a question.
-#[derive(Clone, Copy)]
+#[derive(Clone, Copy, Debug, PartialEq, Eq, PartialOrd, Ord)]
 pub enum Verdict {
     DontCare,
     Yes,
@@ -126,14 +126,6 @@ impl Request {
         Request::WriteOpen,
         Request::Enter,
     ];
-
-    /// Its number, 1 to 25.
-    pub fn number(self) -> u8
-        ensures value { result ≡ request_number self }
-        ensures range { (1 ≤ result) × (result ≤ 25) }
-    {
-        self as u8
-    }
 }
 
 impl Kind {
@@ -145,14 +137,6 @@ impl Kind {
         Kind::Ipc,
         Kind::ControlData,
     ];
-
-    /// Its number, 0 to 4.
-    pub fn number(self) -> u8
-        ensures value { result ≡ kind_number self }
-        ensures range { result ≤ 4 }
-    {
-        self as u8
-    }
 }
 
 impl SystemRole {
@@ -196,7 +180,7 @@ impl DataType {
 }
 
 impl Verdict {
-    /// YES where the condition holds, else NO.
+    /// YES where the condition holds, else NO. It is no `From`, which would not say which is which.
     pub fn yes_if(holds: bool) -> Verdict
         ensures { result ≡ yes_or_no holds }
     {
@@ -212,11 +196,34 @@ impl Verdict {
             Verdict::No | Verdict::Undefined => false,
         }
     }
+}
 
-    /// Its number, 0 to 3.
-    pub fn number(self) -> u8
-        ensures { result ≡ verdict_number self }
-    {
-        self as u8
+// Each type has its own impl of `From`: the trait is not this crate's, so it can't be given to all words at once. `as` is how the number of an
+// enum is had.
+
+/// Its number, 1 to 25.
+impl From<Request> for u8 {
+    ghost from_gives = { λ request number. (number ≡ request_number request) × ((1 ≤ number) × (number ≤ 25)) };
+
+    fn from(request: Request) -> u8 {
+        request as u8
+    }
+}
+
+/// Its number, 0 to 4.
+impl From<Kind> for u8 {
+    ghost from_gives = { λ kind number. (number ≡ kind_number kind) × (number ≤ 4) };
+
+    fn from(kind: Kind) -> u8 {
+        kind as u8
+    }
+}
+
+/// Its number, 0 to 3.
+impl From<Verdict> for u8 {
+    ghost from_gives = { λ verdict number. number ≡ verdict_number verdict };
+
+    fn from(verdict: Verdict) -> u8 {
+        verdict as u8
     }
 }

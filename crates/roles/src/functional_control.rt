@@ -1,32 +1,30 @@
 //! Functional control: which objects are for which system role.
-ghost use Rattle.std.specs.Prelude.{◌≡◌, [], ◌∷◌};
-ghost use Rattle.roles.specs.Roles.{suits, functional_control, functional_control_leaf};
+ghost use Rattle.std.specs.Prelude.{◌≡◌};
+ghost use Rattle.policy.specs.Leaves.{says};
+ghost use Rattle.roles.specs.Roles.{suits, functional_control_leaf};
 
-use policy::interface::Policy;
+use policy::interface::Rule;
 use policy::record::Record;
 use policy::words::{Category, SystemRole, Verdict};
 
 #[derive(Clone, Copy)]
 pub struct FunctionalControl;
 
-impl Policy for FunctionalControl {
-    ghost leaves = { λ _. functional_control_leaf ∷ [] };
+impl Rule for FunctionalControl {
+    ghost NUMBER = { functional_control_leaf.number };
 
-    fn judge(&self, access: &Record) -> (Verdict, u8) {
-        verdict(access).by(3)
-    }
+    ghost says = { λ _. says functional_control_leaf };
 
-    fn note(&mut self, _access: &Record) {}
-}
+    const NUMBER: u8 = 3;
 
-fn verdict(access: &Record) -> Verdict
-    ensures { result ≡ functional_control access.now }
-{
-    match access.request.number() {
-        4 | 13 => Verdict::Undefined,
-        5 | 16 | 20..=22 => Verdict::Yes,
-        25 => Verdict::DontCare,
-        _ => Verdict::yes_if(is_suited(access)),
+    fn verdict(&self, access: &Record) -> Verdict {
+        // By number and range, as the lines are listed: the definition goes by names, so the two cannot share a slip.
+        match u8::from(access.request) {
+            4 | 13 => Verdict::Undefined,
+            5 | 16 | 20..=22 => Verdict::Yes,
+            25 => Verdict::DontCare,
+            _ => Verdict::yes_if(is_suited(access)),
+        }
     }
 }
 

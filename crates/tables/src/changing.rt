@@ -1,21 +1,24 @@
 //! Changes of the tables, each of one element in its place.
 ghost use Rattle.std.specs.Prelude.{◌≡◌};
-ghost use Rattle.tables.specs.Changes.{changed, with_process, with_object, marked, holding, running, long};
+ghost use Rattle.tables.specs.Changes.{changed, with_process, with_object, marked, holding, long};
 
 use crate::change::Change;
-use crate::tables::{Mode, Modes, Object, Process, Tables};
+use crate::tables::{Mode, Modes, Tables};
 use policy::place::Place;
-use policy::words::ProgramType;
 
 impl Tables {
-    /// Makes a change.
+    /// Makes a change. A change is a value and no closure, since a plan is compared with its definition, change and all.
     pub fn apply(&mut self, change: Change)
         ensures { self.new ≡ changed self.old change }
     {
         match change {
             Change::Nothing => {}
-            Change::Seat { seat, process } => self.processes[seat.index as usize] = process,
-            Change::Become { seat, runs } => self.set_type(seat, runs),
+            Change::Seat { seat, process } => self.processes[usize::from(seat)] = process,
+            Change::Become { seat, runs } => {
+                if let Some(process) = &mut self.processes[usize::from(seat)] {
+                    process.runs = runs;
+                }
+            }
             Change::Hold {
                 seat,
                 object,
@@ -23,69 +26,46 @@ impl Tables {
                 truncate,
             } => {
                 if truncate {
-                    self.set_length(object, 0);
+                    self.lengthen(object, 0);
                 }
-                self.set_hold(seat, object, mode, true);
+                self.hold(seat, object, mode, true);
             }
-            Change::LetGo { seat, object, mode } => self.set_hold(seat, object, mode, false),
-            Change::Length { object, length } => self.set_length(object, length),
-            Change::Put { object, thing } => self.objects[object.index as usize] = thing,
+            Change::LetGo { seat, object, mode } => self.hold(seat, object, mode, false),
+            Change::Length { object, length } => self.lengthen(object, length),
+            Change::Put { object, thing } => self.objects[usize::from(object)] = thing,
         }
     }
 
-    fn set_type(&mut self, seat: Place<32>, runs: ProgramType)
-        ensures { self.new ≡ with_process self.old seat (running runs) }
-    {
-        become_type(&mut self.processes[seat.index as usize], runs);
-    }
+    // Two functions and no closure that is lent an element: that one has a clause, a `requires` and a proof more.
 
-    fn set_hold(&mut self, seat: Place<32>, object: Place<64>, mode: Mode, held: bool)
+    /// The process in a seat holds an object in a mode, or lets it go.
+    fn hold(&mut self, seat: Place<32>, object: Place<64>, mode: Mode, held: bool)
         ensures { self.new ≡ with_process self.old seat (holding object mode held) }
     {
-        hold(&mut self.processes[seat.index as usize], object, mode, held);
+        if let Some(process) = &mut self.processes[usize::from(seat)] {
+            process.holds[usize::from(object)].mark(mode, held);
+        }
     }
 
-    fn set_length(&mut self, object: Place<64>, length: u32)
+    /// An object has a length.
+    fn lengthen(&mut self, object: Place<64>, length: u32)
         ensures { self.new ≡ with_object self.old object (long length) }
     {
-        lengthen(&mut self.objects[object.index as usize], length);
+        if let Some(thing) = &mut self.objects[usize::from(object)] {
+            thing.length = length;
+        }
     }
 }
 
-/// The process in a seat is of a type.
-fn become_type(slot: &mut Option<Process>, runs: ProgramType)
-    ensures { slot.new ≡ running runs slot.old }
-{
-    if let Some(process) = slot.as_mut() {
-        process.runs = runs;
-    }
-}
-
-/// The process in a seat holds an object in a mode, or lets it go.
-fn hold(slot: &mut Option<Process>, object: Place<64>, mode: Mode, held: bool)
-    ensures { slot.new ≡ holding object mode held slot.old }
-{
-    if let Some(process) = slot.as_mut() {
-        mark(&mut process.holds[object.index as usize], mode, held);
-    }
-}
-
-/// Puts a mode into a set or takes it out.
-fn mark(modes: &mut Modes, mode: Mode, held: bool)
-    ensures { modes.new ≡ marked mode held modes.old }
-{
-    match mode {
-        Mode::Read => modes.read = held,
-        Mode::Write => modes.write = held,
-        Mode::ReadWrite => modes.both = held,
-    }
-}
-
-/// An object has a length.
-fn lengthen(slot: &mut Option<Object>, length: u32)
-    ensures { slot.new ≡ long length slot.old }
-{
-    if let Some(object) = slot.as_mut() {
-        object.length = length;
+impl Modes {
+    /// Puts a mode into the set or takes it out.
+    fn mark(&mut self, mode: Mode, held: bool)
+        ensures { self.new ≡ marked mode held self.old }
+    {
+        match mode {
+            Mode::Read => self.read = held,
+            Mode::Write => self.write = held,
+            Mode::ReadWrite => self.both = held,
+        }
     }
 }

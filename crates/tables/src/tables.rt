@@ -24,7 +24,7 @@ impl Mode {
     pub const ALL: [Mode; 3] = [Mode::Read, Mode::Write, Mode::ReadWrite];
 }
 
-/// The set of modes in which one object is held.
+/// The set of modes in which one object is held: three truths and no array, since they are looked at by name.
 #[derive(Clone, Copy)]
 pub struct Modes {
     pub read: bool,

@@ -1,4 +1,2 @@
 pub mod Bits
-pub mod Passes
 pub mod Charted
-pub mod Narrowing

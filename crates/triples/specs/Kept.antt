@@ -1,4 +1,6 @@
 -- What the sets that the policy keeps stand for.
+use Rattle.std.specs.Prelude.{ℕ, Bool}
+use Rattle.policy.specs.declared.record.Record.{Record}
 use Rattle.policy.specs.Leaves.{Leaf}
 use Rattle.associations.specs.Associations.{row_at}
 use Rattle.triples.specs.declared.triples.Triples.{Triples}
@@ -13,6 +15,10 @@ kept_chart t = record {
 
 abbrev pub kept_candidates : Triples → Candidates
 kept_candidates t = has_at t.candidates
+
+-- those of the record's seat
+abbrev pub candidates_of : Triples → Record → ℕ → Bool
+candidates_of t q = kept_candidates t q.subject.seat.index
 
 -- the policy as it stands
 abbrev pub kept_leaf : Triples → Leaf

@@ -1,9 +1,13 @@
 //! A set of the rows of associations, by their places, as the bits of one number.
-ghost use Rattle.std.specs.Prelude.{◌≡◌, ℕ, ◌<◌, false, ◌&&◌, ◌||◌, ◌==◌};
+ghost use Rattle.std.specs.Prelude.{◌≡◌, ℕ, false, ◌&&◌, ◌||◌, ◌==◌};
 ghost use Rattle.triples.specs.RowSets.{has, no_rows, any_below};
 
+use policy::place::Place;
+
 #[derive(Clone, Copy)]
+// What it means is `has`, in each contract: a model of it would need an inverse, since it is copied.
 pub(crate) struct RowSet {
+    // a bit for each place, so that narrowing is one `&`
     bits: u32,
 }
 
@@ -26,21 +30,12 @@ impl RowSet {
     }
 
     /// The same with one row more.
-    pub(crate) fn with(self, place: u8) -> RowSet
-        requires { place < 32 }
-        ensures { (k : ℕ) → has result k ≡ (k == place || has self k) }
+    pub(crate) fn with(self, place: Place<32>) -> RowSet
+        ensures { (k : ℕ) → has result k ≡ (k == place.index || has self k) }
     {
         RowSet {
-            bits: self.bits | (1 << place),
+            bits: self.bits | (1 << place.index),
         }
-    }
-
-    /// The same with one row more where a test of it passes.
-    pub(crate) fn with_if(self, place: u8, passes: bool) -> RowSet
-        requires { place < 32 }
-        ensures { (k : ℕ) → has result k ≡ ((k == place && passes) || has self k) }
-    {
-        if passes { self.with(place) } else { self }
     }
 
     /// Whether some row is in it.

@@ -1,11 +1,13 @@
 //! The triples policy: it remembers for each seat which rows may still cover what its procedure was given.
-ghost use Rattle.std.specs.Prelude.{◌≡◌, ℕ, ◌<◌, ◌&&◌, ◌||◌, [], ◌∷◌};
+ghost use Rattle.std.specs.Prelude.{◌≡◌, ℕ, ◌<◌, ◌&&◌, ◌||◌, [], ◌∷◌, false};
+ghost use Rattle.std.specs.Option.{MatchOption};
+ghost use Rattle.policy.specs.declared.place.Place.{Place};
 ghost use Rattle.policy.specs.declared.words.DataType.TheVariants.{Cdi, Cdiic};
 ghost use Rattle.policy.specs.Records.{content_is};
 ghost use Rattle.associations.specs.Associations.{row_at};
 ghost use Rattle.triples.specs.RowSets.{has};
-ghost use Rattle.triples.specs.Triples.{chart_of, row_assigned, row_has, no_candidates, triples_leaf, is_of, lists_object, candidate_after, manage_verdict, give_away_verdict, execute_verdict, open_verdict, triples_verdict};
-ghost use Rattle.triples.specs.Kept.{kept_chart, kept_candidates, kept_leaf};
+ghost use Rattle.triples.specs.Triples.{row_has, chart_of, no_candidates, triples_leaf, is_of, lists_object, candidate_after, manage_verdict, give_away_verdict, execute_verdict, open_verdict, triples_verdict};
+ghost use Rattle.triples.specs.Kept.{kept_chart, candidates_of, kept_leaf};
 
 use crate::row_set::RowSet;
 use associations::associations::Associations;
@@ -14,9 +16,11 @@ use policy::interface::Policy;
 use policy::place::Place;
 use policy::record::Record;
 use policy::words::{DataType, IntegrityRole, Kind, ProgramType, Verdict};
+use std::array;
 
 #[derive(Drop)]
 pub struct Triples {
+    // arrays, since nothing may be allocated
     rows: [Option<Row>; 32],
     /// for each object, the rows that list it
     listing: [RowSet; 64],
@@ -25,20 +29,22 @@ pub struct Triples {
 }
 
 impl Triples {
+    /// The number of the leaf.
+    const NUMBER: u8 = 2;
+
     /// The policy of the rows and cells as they stand, with no candidates.
     pub fn new(associations: &Associations) -> Triples
         ensures { kept_leaf result ≡ triples_leaf (chart_of associations.now) no_candidates }
     {
-        let rows = associations.rows();
-        let none = RowSet::none();
-        let mut listing = [none; 64];
-        for index in 0..64 {
-            listing[index as usize] = rows_with(&rows, associations, Place { index });
-        }
         Triples {
-            rows,
-            listing,
-            candidates: [none; 32],
+            rows: associations.rows(),
+            // the index is below 64, so that `as` loses nothing
+            listing: array::from_fn(
+                |index| -> RowSet
+                    requires { index < 64 }
+                { rows_with(associations, Place { index: index as u8 }) },
+            ),
+            candidates: [RowSet::none(); 32],
         }
     }
 
@@ -46,49 +52,52 @@ impl Triples {
     fn rows_listing(&self, access: &Record) -> RowSet
         ensures { (k : ℕ) → has result k ≡ lists_object (kept_chart self.now) access.now k }
     {
-        match access.target.object {
-            Some(item) => self.listing[item.index as usize],
-            None => RowSet::none(),
-        }
+        access
+            .target
+            .object
+            .map_or(RowSet::none(), |item| self.listing[usize::from(item)])
     }
 
     /// The rows of the record's owner and object.
     fn rows_of(&self, access: &Record) -> RowSet
         ensures { (k : ℕ) → has result k ≡ is_of (kept_chart self.now) access.now k }
     {
-        match access.target.object {
-            Some(procedure) => rows_assigned(&self.rows, access.subject.owner, procedure),
-            None => RowSet::none(),
-        }
+        access.target.object.map_or(RowSet::none(), |procedure| {
+            rows_where(&self.rows, |row| {
+                row.user == access.subject.owner && row.procedure == procedure
+            })
+        })
     }
 
     /// The candidates of the record's seat, narrowed to those that list its object.
     fn narrowed(&self, access: &Record) -> RowSet
-        ensures { (k : ℕ) → has result k ≡ (kept_candidates self.now access.now.subject.seat.index k && lists_object (kept_chart self.now) access.now k) }
+        ensures { (k : ℕ) → has result k ≡ (candidates_of self.now access.now k && lists_object (kept_chart self.now) access.now k) }
     {
-        let candidates = self.candidates[access.subject.seat.index as usize];
+        let candidates = self.candidates[usize::from(access.subject.seat)];
         candidates.both(self.rows_listing(access))
     }
 
     /// The candidates of the record's seat once it has been noted.
     fn candidates_after(&self, access: &Record) -> RowSet
-        ensures { (k : ℕ) → has result k ≡ candidate_after (kept_chart self.now) access.now k (kept_candidates self.now access.now.subject.seat.index k) }
+        ensures { (k : ℕ) → has result k ≡ candidate_after (kept_chart self.now) access.now k (candidates_of self.now access.now k) }
     {
-        match access.request.number() {
+        // By number and range, as the lines are listed: the definition goes by names, so the two cannot share a slip.
+        match u8::from(access.request) {
             9
                 if access.subject.runs == ProgramType::Nil
                     && access.target.program == ProgramType::Tp => self.rows_of(access),
             8 | 17..=18 | 24 if access.target.content == DataType::Cdi => self.narrowed(access),
             21 => RowSet::none(),
-            _ => self.candidates[access.subject.seat.index as usize],
+            _ => self.candidates[usize::from(access.subject.seat)],
         }
     }
 
     /// The first line that fits decides.
     fn verdict(&self, access: &Record) -> Verdict
-        ensures { result ≡ triples_verdict (kept_chart self.now) (kept_candidates self.now access.now.subject.seat.index) access.now }
+        ensures { result ≡ triples_verdict (kept_chart self.now) (candidates_of self.now access.now) access.now }
     {
-        match access.request.number() {
+        // By number and range, as the lines are listed: the definition goes by names, so the two cannot share a slip.
+        match u8::from(access.request) {
             5 if access.subject.runs == ProgramType::Nil => Verdict::DontCare,
             5 => Verdict::No,
             9 => self.execute_verdict(access),
@@ -101,7 +110,7 @@ impl Triples {
     }
 
     fn execute_verdict(&self, access: &Record) -> Verdict
-        ensures { result ≡ execute_verdict (kept_chart self.now) (kept_candidates self.now access.now.subject.seat.index) access.now }
+        ensures { result ≡ execute_verdict (kept_chart self.now) (candidates_of self.now access.now) access.now }
     {
         let role = access.subject.integrity;
         match (access.subject.runs, access.target.program) {
@@ -119,7 +128,7 @@ impl Triples {
 
     /// Of constrained items and integrity-control data.
     fn open_verdict(&self, access: &Record) -> Verdict
-        ensures { result ≡ open_verdict (kept_chart self.now) (kept_candidates self.now access.now.subject.seat.index) access.now }
+        ensures { result ≡ open_verdict (kept_chart self.now) (candidates_of self.now access.now) access.now }
     {
         match (access.target.content, access.subject.runs) {
             _ if access.target.kind != Kind::File => Verdict::Undefined,
@@ -135,12 +144,11 @@ impl Policy for Triples {
     ghost leaves = { λ t. kept_leaf t ∷ [] };
 
     fn judge(&self, access: &Record) -> (Verdict, u8) {
-        self.verdict(access).by(2)
+        self.verdict(access).by(Self::NUMBER)
     }
 
     fn note(&mut self, access: &Record) {
-        let candidates = self.candidates_after(access);
-        self.candidates[access.subject.seat.index as usize] = candidates;
+        self.candidates[usize::from(access.subject.seat)] = self.candidates_after(access);
     }
 }
 
@@ -177,55 +185,25 @@ fn give_away_verdict(access: &Record) -> Verdict
     }
 }
 
-/// The rows of the user and the procedure, in one pass.
-fn rows_assigned(rows: &[Option<Row>; 32], user: Place<16>, procedure: Place<64>) -> RowSet
-    ensures { (k : ℕ) → has result k ≡ row_assigned (row_at rows.now k) user procedure }
+/// The rows that list the item.
+fn rows_with(associations: &Associations, item: Place<64>) -> RowSet
+    ensures { (k : ℕ) → has result k ≡ (chart_of associations.now).lists k item }
+{
+    rows_where(&associations.rows(), |row| associations.lists(&row, item))
+}
+
+/// The rows that pass the test.
+fn rows_where<F: Fn(Row) -> bool>(rows: &[Option<Row>; 32], passes: F) -> RowSet
+    requires { F.IsAlwaysCallable passes }
+    ensures { (k : ℕ) → MatchOption (row_at rows.now k) (has result k ≡ false) (λ row. F.post passes row (has result k)) }
 {
     let mut set = RowSet::none();
-    for place in 0..32 {
-        let passes = is_assigned(rows, place, user, procedure);
-        set = set.with_if(place, passes);
+    // A counted loop: over `(0..32).zip(rows)` its place, its invariant and its end were not proved.
+    for index in 0..32 {
+        let place = Place { index };
+        if rows[usize::from(place)].is_some_and(&passes) {
+            set = set.with(place);
+        }
     }
     set
-}
-
-/// Whether the row at the place is of the user and the procedure.
-fn is_assigned(rows: &[Option<Row>; 32], place: u8, user: Place<16>, procedure: Place<64>) -> bool
-    requires { place < 32 }
-    ensures { result ≡ row_assigned (row_at rows.now place) user procedure }
-{
-    let row = rows[place as usize];
-    match row {
-        Some(row) => row.user.index == user.index && row.procedure.index == procedure.index,
-        None => false,
-    }
-}
-
-/// The rows that list the item, in one pass.
-fn rows_with(rows: &[Option<Row>; 32], associations: &Associations, item: Place<64>) -> RowSet
-    ensures { (k : ℕ) → has result k ≡ row_has associations.now (row_at rows.now k) item }
-{
-    let mut set = RowSet::none();
-    for place in 0..32 {
-        let passes = has_item(rows, place, associations, item);
-        set = set.with_if(place, passes);
-    }
-    set
-}
-
-/// Whether the row at the place lists the item.
-fn has_item(
-    rows: &[Option<Row>; 32],
-    place: u8,
-    associations: &Associations,
-    item: Place<64>,
-) -> bool
-    requires { place < 32 }
-    ensures { result ≡ row_has associations.now (row_at rows.now place) item }
-{
-    let row = rows[place as usize];
-    match row {
-        Some(row) => associations.lists(&row, item),
-        None => false,
-    }
 }

@@ -16,4 +16,4 @@ pub returns : goal.returns
 unfolding placed on_chain any_below
 returns c =
     ap (λ v. Says v ∷ [])
-    (c.verdict_after-verdict.ensures (made_from three_chains ∷ []) (made_alone _ _ _ three_chains c.new-triples.ensures c.unwrap-chains.ensures c.three_chains.ensures))
+    (c.verdict_after.ensures (made_from three_chains ∷ []) (made_alone _ _ _ three_chains c.new-triples.ensures c.unwrap-chains.ensures c.three_chains.ensures))

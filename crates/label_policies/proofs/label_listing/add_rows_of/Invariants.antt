@@ -7,5 +7,5 @@ use Rattle.label_policies.proofs.label_listing.add_rows_of.Given as goal
 
 abbrev pub invariant-loop-kind : goal.invariant-loop-kind
 invariant-loop-kind l =
-    vec_items l.rows ++ flat_map (row_at rows l.request) (drop l.kind-index l.kind-items)
-    ≡ vec_items l.initial.rows ++ flat_map (row_at rows l.request) l.kind-items
+    vec_items l.list ++ flat_map (row_at rows l.request) (drop l.kind-index l.kind-items)
+    ≡ vec_items l.initial.list ++ flat_map (row_at rows l.request) l.kind-items

@@ -4,6 +4,4 @@ use Rattle.label_policies.proofs.Places.{at_place}
 use Rattle.label_policies.proofs.label_table.condition_of.Goals as goal
 
 pub returns : goal.returns
-returns c =
-    at_place rows _ c.conditions-table.ensures _ _ c.args.request c.args.kind c.number.result c.number-2.result
-    c.number.ensures.value c.number-2.ensures.value (omega arith) (omega arith) (omega arith)
+returns c = at_place rows _ c.conditions.ensures _ _ c.args.request c.args.kind _ _ (omega arith) (omega arith) (omega arith) (omega arith)

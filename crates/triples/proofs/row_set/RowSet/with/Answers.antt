@@ -9,5 +9,5 @@ pub returns : goal.returns
 unfolding has
 returns c k =
     let bits = c.args.self.bits in
-    let place = c.args.place in
-    ap (λ n. bit (bit_or bits n) k) (one_shl place 32 c.requires) ∙ bit-or bits (2 ^ place) k ∙ ap (λ b. b || bit bits k) (bit-pow place k)
+    let place = c.args.place.index in
+    ap (λ n. bit (bit_or bits n) k) (one_shl place 32 c.args.place.within) ∙ bit-or bits (2 ^ place) k ∙ ap (λ b. b || bit bits k) (bit-pow place k)

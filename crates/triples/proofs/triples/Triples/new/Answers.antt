@@ -1,13 +1,11 @@
-use Rattle.std.proofs.Common.{replicate, refl, ap, rules}
-use Rattle.triples.proofs.Charted.{charted_none, charted_more, charted_all}
+use Rattle.std.proofs.Common.{replicate, ap, rules}
+use Rattle.triples.specs.RowSets.{no_rows}
+use Rattle.triples.proofs.Charted.{Lists, same_walk, made, charted}
 use Rattle.triples.proofs.triples.Triples.new.Goals as goal
 
-pub loop-index-init : goal.loop-index-init
-loop-index-init c = charted_none _ _ _ refl
-
-pub loop-index-preserved : goal.loop-index-preserved
-loop-index-preserved c = charted_more _ _ _ _ _ _ c.rows_with.ensures c.loop-index.invariant
-
+-- the inner `c`, one call, hides the outer, whose 64 calls are more than `search` enters
 pub returns : goal.returns
 returns c =
-    charted_all c.args.associations.now _ c.loop-index.index (search rules) c.rows-rows.ensures c.loop-index.invariant (ap (replicate 32) c.none-none.ensures.made)
+    charted c.args.associations.now _ c.rows.ensures
+    (λ item. made _ _ (Lists c.args.associations.now) (λ i y q c. search (rules, same_walk)) c.from_fn.result no_rows 64 0 item.index c.from_fn.ensures.items.each (search rules) item.within)
+    (ap (replicate 32) c.none.ensures.made)
