@@ -1,9 +1,9 @@
 //! What is put to the stack of four: a record and a dozen that differ from it, and the steps of a release routine.
 use examples::records::{BEGIN, HIGH, OPEN_ONE, OPEN_THREE, OPEN_TWO, PLAIN};
-use policy::record::{Record, Subject, Target};
+use policy::record::Record;
 use policy::words::{Category, DataType, Kind, Request};
 
-/// A record, and in words what it is, or what is other in it than in the first.
+/// A record, and in words what it is, how it differs from the first, or which step it is.
 #[derive(Clone, Copy)]
 pub struct Asked {
     pub access: Record,
@@ -26,92 +26,58 @@ pub(crate) fn all_asked() -> [Asked; 13] {
             access: FIRST,
             what: "a user opens a general file of the process's own label for writing",
         },
-        requesting(Request::ReadOpen, "request 18 read-open"),
-        requesting(Request::ChangeRole, "request 4 change-role"),
-        requesting(Request::Enter, "request 25 enter"),
-        Asked {
-            access: Record {
-                subject: Subject {
-                    label: HIGH,
-                    ..FIRST.subject
-                },
-                ..FIRST
-            },
-            what: "process label 131,075",
-        },
-        on(
-            Target {
-                label: HIGH,
-                ..FIRST.target
-            },
-            "object label 131,075",
+        other(
+            "request 18 read-open",
+            |access| access.request = Request::ReadOpen,
         ),
-        on(
-            Target {
-                label: UNLAWFUL,
-                ..FIRST.target
-            },
+        other(
+            "request 4 change-role",
+            |access| access.request = Request::ChangeRole,
+        ),
+        other("request 25 enter", |access| access.request = Request::Enter),
+        other(
+            "process label 131,075",
+            |access| access.subject.label = HIGH,
+        ),
+        other("object label 131,075", |access| access.target.label = HIGH),
+        other(
             "object label 16,777,216, which is not lawful",
+            |access| access.target.label = UNLAWFUL,
         ),
-        on(
-            Target {
-                kind: Kind::Directory,
-                ..FIRST.target
-            },
+        other(
             "kind 2 directory",
+            |access| access.target.kind = Kind::Directory,
         ),
-        on(
-            Target {
-                category: Category::Security,
-                ..FIRST.target
-            },
+        other(
             "category 1 security",
+            |access| access.target.category = Category::Security,
         ),
-        on(
-            Target {
-                category: Category::System,
-                ..FIRST.target
-            },
+        other(
             "category 2 system",
+            |access| access.target.category = Category::System,
         ),
-        on(
-            Target {
-                content: DataType::Cdi,
-                ..FIRST.target
-            },
+        other(
             "data 1 CDI, a constrained item",
+            |access| access.target.content = DataType::Cdi,
         ),
-        on(
-            Target {
-                content: DataType::Cdiic,
-                ..FIRST.target
-            },
+        other(
             "data 2 CDIIC, integrity-control data",
+            |access| access.target.content = DataType::Cdiic,
         ),
-        on(
-            Target {
-                content: DataType::Si,
-                ..FIRST.target
-            },
+        other(
             "data 3 si, security information",
+            |access| access.target.content = DataType::Si,
         ),
     ]
 }
 
-/// The first record with another request.
-fn requesting(request: Request, what: &'static str) -> Asked {
-    Asked {
-        access: Record { request, ..FIRST },
-        what,
-    }
-}
-
-/// The first record with another object.
-fn on(target: Target, what: &'static str) -> Asked {
-    Asked {
-        access: Record { target, ..FIRST },
-        what,
-    }
+/// The first record once it is changed, by any change that may be made: so the `requires`.
+fn other<F: FnOnce(&mut Record)>(what: &'static str, change: F) -> Asked
+    requires { F.IsAlwaysCallable change }
+{
+    let mut access = FIRST;
+    change(&mut access);
+    Asked { access, what }
 }
 
 /// What a release routine does, in its order.

@@ -63,7 +63,7 @@ fn print_row(rt: &HostRuntime, number: usize, row: &Row) -> io::Result<()> {
     println!(rt; "{needs}")
 }
 
-/// The columns of a request and a kind, which a row and a try have beside other things, so that they are no struct.
+/// The columns of a request and a kind: two arguments, since rows and tries are different types.
 fn print_place(rt: &HostRuntime, request: Request, kind: Kind) -> io::Result<()> {
     let request_number = u8::from(request);
     let kind_number = u8::from(kind);

@@ -10,7 +10,7 @@ use std::io;
 
 const HEADS: &str = "control    information  triples    labels     stack        leaf  ";
 
-/// Prints what each policy and the stack say of a dozen records.
+/// Prints what each policy and the stack say of thirteen records.
 pub(crate) fn print_asked(rt: &HostRuntime, chains: &Associations) -> io::Result<()> {
     println!(rt;
         "The stack of functional control (leaf 3), security information (4), triples (2) and labels over compartments (1)"

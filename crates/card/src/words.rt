@@ -2,7 +2,7 @@
 use label_policies::label_table::{Condition, Row};
 use policy::words::Request;
 
-/// What a row needs. Two rows compare other labels than a process's and an object's. It is no `Display`: a row is more than what it needs.
+/// What a row needs. Two rows compare other labels than a process's and an object's. It is no `Display` of a row, which is more than what it needs.
 pub(crate) fn condition_words(row: &Row) -> &'static str {
     match (row.request, row.condition) {
         (_, Condition::Free) => "nothing",

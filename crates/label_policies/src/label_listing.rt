@@ -29,7 +29,7 @@ fn add_rows_of(list: &mut Vec<Row>, request: Request) -> Result<(), AllocError>
     Ok(())
 }
 
-/// Adds the row of a request and a kind, if there is one. They come from two loops, so they are no struct.
+/// Adds the row of a request and a kind, if there is one: two arguments, since they come from two loops.
 fn add_row(list: &mut Vec<Row>, request: Request, kind: Kind) -> Result<(), AllocError>
     ensures { OnOk result (list.new.items ≡ list.old.items ++ row_at rows request kind) }
 {

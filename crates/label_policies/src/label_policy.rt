@@ -37,7 +37,7 @@ impl<O: LabelOrder> Rule for MandatoryLabels<O> {
 
 /// What the label policy says of a request by a process with one label on an object with another.
 /// Where it says YES, whoever learns dominates what it learns of, and what is changed dominates whoever changes it.
-/// It takes request, kind and labels, and no struct of them: so it can be seen that it goes by nothing else.
+/// Its parameters, which are no struct, show that it goes by nothing else.
 pub fn label_verdict<O: LabelOrder>(
     order: &O,
     request: Request,
@@ -61,11 +61,10 @@ fn ruling<O: LabelOrder>(
 ) -> Verdict
     ensures { result ≡ ruled (O.meaning order.now) condition process object }
 {
-    let comparable = order.is_lawful(process) && order.is_lawful(object);
     match condition {
         None => Verdict::Undefined,
         Some(Condition::Free) => Verdict::Yes,
-        Some(_) if !comparable => Verdict::Undefined,
+        Some(_) if !(order.is_lawful(process) && order.is_lawful(object)) => Verdict::Undefined,
         Some(Condition::Equal) => Verdict::yes_if(process == object),
         Some(Condition::Dominates) => Verdict::yes_if(order.dominates(process, object)),
     }

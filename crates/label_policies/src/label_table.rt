@@ -67,7 +67,7 @@ fn conditions() -> &'static [[Option<Condition>; 5]; 25]
     &CONDITIONS
 }
 
-/// What the row of a request and a kind needs, or none where there is no such row. Callers have the two apart, so they are no struct.
+/// What the row of a request and a kind needs, or none where there is no such row. Callers have the two apart, so they are two arguments.
 pub fn condition_of(request: Request, kind: Kind) -> Option<Condition>
     ensures { result ≡ condition_in rows request kind }
 {

@@ -1,19 +1,18 @@
 //! The plans of the calls on objects.
 ghost use Rattle.std.specs.Prelude.{◌≡◌};
 ghost use Rattle.plans.specs.Plans.{opening, checked_open};
-ghost use Rattle.plans.specs.Checks.{is_directory};
 
-use crate::checks::{has, is_directory};
 use crate::plan::Plan;
 use crate::records::{at_home, subject, target};
 use policy::numbering::word;
 use policy::place::Place;
 use policy::record::Record;
 use policy::refusal::Refusal;
-use policy::words::Request;
+use policy::words::{Kind, Request};
 use tables::change::Change;
 use tables::tables::{Mode, Tables};
 
+/// The plan of an open. Its numbers are bare, as the call gives them: a wrong one is refused by its position.
 pub(crate) fn plan_open(
     tables: &Tables,
     seat: u64,
@@ -33,10 +32,10 @@ pub(crate) fn plan_open(
     let thing = tables.objects[usize::from(object)]
         .as_ref()
         .ok_or(Refusal::ObjectUnused)?;
-    if is_directory(thing) {
+    if thing.kind == Kind::Directory {
         return Err(Refusal::WrongKind);
     }
-    if has(process.holds[usize::from(object)], mode) {
+    if process.holds[usize::from(object)].has(mode) {
         return Err(Refusal::HeldSoAlready);
     }
     let subject = subject(tables, seat, process);

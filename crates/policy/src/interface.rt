@@ -14,7 +14,7 @@ pub trait Policy {
     ghost leaves: { Self → List Leaf };
 
     /// The verdicts of the leaves, joined, and the number of a leaf that says so: 0 where none cares. It is a pair, since a stack
-    /// joins pairs and a log shows both; other leaves may come, so no enum has their numbers.
+    /// joins pairs, and a number, since other leaves may come.
     fn judge(&self, access: &Record) -> (Verdict, u8)
         ensures { Judged (leaves self.now) access.now result };
 

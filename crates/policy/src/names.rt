@@ -8,10 +8,8 @@ use crate::words::{Kind, Request, Verdict};
 use std::error::Error;
 use std::fmt;
 
-// Each type has its own impl of `Display`: the trait is not this crate's, so it can't be given to all words at once.
-
 impl Request {
-    // A function of its own: within `fmt` the text with its options was not proved, of so many.
+    // A function of its own: within `fmt`, with padding and 25 cases, the proof did not close.
     fn name(self) -> &'static str
         ensures { result.now ≡ request_name self }
     {
@@ -91,7 +89,10 @@ impl fmt::Display for Refusal {
 
     fn fmt<W: fmt::Write>(&self, f: &mut fmt::Formatter<W>) -> fmt::Result {
         match *self {
-            Refusal::OutOfRange { position } => write!(f, "number {position} is outside its range"),
+            Refusal::OutOfRange { position } => write!(
+                f,
+                "the number at position {position} is outside its range"
+            ),
             Refusal::SeatEmpty => f.write_str("the seat is empty"),
             Refusal::SeatTaken => f.write_str("the seat is taken"),
             Refusal::NoSuchUser => f.write_str("there is no such user"),
@@ -99,7 +100,7 @@ impl fmt::Display for Refusal {
             Refusal::ObjectInUse => f.write_str("the object is in use"),
             Refusal::NoSuchHome => f.write_str("the home is neither 0 nor a directory in use"),
             Refusal::Held => f.write_str("some seat holds the object"),
-            Refusal::HomeOfAnother => f.write_str("some object in use has it for its home"),
+            Refusal::HomeOfAnother => f.write_str("an object in use has it as its home"),
             Refusal::NotHeldSo => f.write_str("the object is not held in that mode"),
             Refusal::HeldSoAlready => f.write_str("the object is held in that mode already"),
             Refusal::WrongKind => f.write_str("the object is of another kind"),
@@ -107,11 +108,11 @@ impl fmt::Display for Refusal {
             Refusal::CellNotSet => f.write_str("the cell is not set"),
             Refusal::Denied { request, policy } => write!(
                 f,
-                "to {request} policy {policy} says NO"
+                "{request} is denied (policy {policy})"
             ),
             Refusal::Undefined { request, policy } => write!(
                 f,
-                "for {request} policy {policy} has no rule"
+                "{request} has no rule (policy {policy})"
             ),
         }
     }

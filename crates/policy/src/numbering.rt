@@ -5,8 +5,9 @@ ghost use Rattle.policy.specs.Places.{placed, placed_or_none, number_of, word_nu
 use crate::place::Place;
 use crate::refusal::Refusal;
 
-// A number and its position stay two arguments: `Place::numbered(seat, 1)` reads as the rule does, and a struct of both would be made only
-// to be taken apart.
+// Number and position are two arguments: `Place::numbered(seat, 1)` says that the seat is the call's first number, and a struct of both would be
+// made only to be taken apart. Nor is there a `TryFrom`, whose error could not name the position.
+
 impl<const N: u8> Place<N> {
     /// The place of a number from 1 to `N`; where it is outside, the refusal that names its position.
     pub fn numbered(number: u64, position: u8) -> Result<Place<N>, Refusal>
@@ -39,7 +40,7 @@ impl<const N: u8> Place<N> {
     }
 }
 
-// Number and position stay two arguments here too.
+// Two arguments, number and position: a struct of both would be made only to be taken apart.
 
 /// The word of a number, where the words are numbered one by one from the first on; where the number is of none, the
 /// refusal that names its position.

@@ -35,7 +35,7 @@ pub enum Refusal {
     Undefined { request: Request, policy: u8 },
 }
 
-/// A refusal as a log has it, in numbers only: its own and the two values that it names, 0 where it names none.
+/// A refusal as a log has it: its number and the two values that it names. A log has numbers only, so 0 stands where it names none.
 #[derive(Clone, Copy, Debug, PartialEq, Eq)]
 pub struct RefusalCode {
     pub number: u8,

@@ -198,8 +198,8 @@ impl Verdict {
     }
 }
 
-// Each type has its own impl of `From`: the trait is not this crate's, so it can't be given to all words at once. `as` is how the number of an
-// enum is had.
+// An impl for each type, by `as`, which is how an enum gives its number: `From` cannot be given to all words at once, since it is not this crate's, and a
+// trait of its own would need as many.
 
 /// Its number, 1 to 25.
 impl From<Request> for u8 {

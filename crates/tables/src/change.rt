@@ -3,6 +3,7 @@ use crate::tables::{Mode, Object, Process};
 use policy::place::Place;
 use policy::words::ProgramType;
 
+/// It is a value and no closure: a plan is compared with its definition, change and all, and a stored closure needs a box.
 #[derive(Clone, Copy)]
 pub enum Change {
     Nothing,

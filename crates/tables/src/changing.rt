@@ -7,7 +7,7 @@ use crate::tables::{Mode, Modes, Tables};
 use policy::place::Place;
 
 impl Tables {
-    /// Makes a change. A change is a value and no closure, since a plan is compared with its definition, change and all.
+    /// Makes a change.
     pub fn apply(&mut self, change: Change)
         ensures { self.new ≡ changed self.old change }
     {
@@ -36,7 +36,7 @@ impl Tables {
         }
     }
 
-    // Two functions and no closure that is lent an element: that one has a clause, a `requires` and a proof more.
+    // Two functions, and not one that lends an element to a closure: that one needs a further clause, a `requires` and a proof file.
 
     /// The process in a seat holds an object in a mode, or lets it go.
     fn hold(&mut self, seat: Place<32>, object: Place<64>, mode: Mode, held: bool)

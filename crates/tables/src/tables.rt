@@ -1,4 +1,6 @@
 //! The tables of users, processes and objects. Their sizes are the vault's bounds, so that nothing is ever allocated.
+ghost use Rattle.std.specs.Prelude.{◌≡◌};
+
 use policy::place::Place;
 use policy::words::{Category, DataType, IntegrityRole, Kind, ProgramType, SystemRole};
 
@@ -24,7 +26,7 @@ impl Mode {
     pub const ALL: [Mode; 3] = [Mode::Read, Mode::Write, Mode::ReadWrite];
 }
 
-/// The set of modes in which one object is held: three truths and no array, since they are looked at by name.
+/// The set of modes in which one object is held: three truths and no array, since each is read by name.
 #[derive(Clone, Copy)]
 pub struct Modes {
     pub read: bool,
@@ -33,11 +35,24 @@ pub struct Modes {
 }
 
 impl Modes {
+    ghost use Rattle.tables.specs.Tables.{has_mode};
+
     pub const NONE: Modes = Modes {
         read: false,
         write: false,
         both: false,
     };
+
+    /// Whether the mode is in the set.
+    pub fn has(self, mode: Mode) -> bool
+        ensures { result ≡ has_mode self mode }
+    {
+        match mode {
+            Mode::Read => self.read,
+            Mode::Write => self.write,
+            Mode::ReadWrite => self.both,
+        }
+    }
 }
 
 /// A running program: whom it acts for, its label, its type, and what it holds of each object.

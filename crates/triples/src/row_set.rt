@@ -5,7 +5,6 @@ ghost use Rattle.triples.specs.RowSets.{has, no_rows, any_below};
 use policy::place::Place;
 
 #[derive(Clone, Copy)]
-// What it means is `has`, in each contract: a model of it would need an inverse, since it is copied.
 pub(crate) struct RowSet {
     // a bit for each place, so that narrowing is one `&`
     bits: u32,

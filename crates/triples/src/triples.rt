@@ -38,7 +38,7 @@ impl Triples {
     {
         Triples {
             rows: associations.rows(),
-            // the index is below 64, so that `as` loses nothing
+            // `from_fn` calls this at indices below 64 alone, so the `requires` asks nothing and `as` loses nothing
             listing: array::from_fn(
                 |index| -> RowSet
                     requires { index < 64 }
@@ -192,13 +192,13 @@ fn rows_with(associations: &Associations, item: Place<64>) -> RowSet
     rows_where(&associations.rows(), |row| associations.lists(&row, item))
 }
 
-/// The rows that pass the test.
+/// The rows that pass the test. The `requires` says that the test may be made of any row.
 fn rows_where<F: Fn(Row) -> bool>(rows: &[Option<Row>; 32], passes: F) -> RowSet
     requires { F.IsAlwaysCallable passes }
     ensures { (k : ℕ) → MatchOption (row_at rows.now k) (has result k ≡ false) (λ row. F.post passes row (has result k)) }
 {
     let mut set = RowSet::none();
-    // A counted loop: over `(0..32).zip(rows)` its place, its invariant and its end were not proved.
+    // A counted loop: over `(0..32).zip(rows)` the check proved neither the bound of the place nor the invariant nor the end.
     for index in 0..32 {
         let place = Place { index };
         if rows[usize::from(place)].is_some_and(&passes) {
