@@ -27,6 +27,7 @@ ruled order (Some Dominates) process object = compared order process object (ord
 abbrev pub label_verdict : List Row → Order → Request → Kind → ℕ → ℕ → Verdict
 label_verdict table order request kind process object = ruled order (condition_in table request kind) process object
 
+-- the number of its leaf
 abbrev pub label_number : ℕ
 label_number = 1
 

@@ -103,7 +103,7 @@ impl fmt::Display for Refusal {
             Refusal::HomeOfAnother => f.write_str("an object in use has it as its home"),
             Refusal::NotHeldSo => f.write_str("the object is not held in that mode"),
             Refusal::HeldSoAlready => f.write_str("the object is held in that mode already"),
-            Refusal::WrongKind => f.write_str("the object is of another kind"),
+            Refusal::WrongKind => f.write_str("the object is of the wrong kind"),
             Refusal::SetTwice => f.write_str("it is set already"),
             Refusal::CellNotSet => f.write_str("the cell is not set"),
             Refusal::Denied { request, policy } => write!(
