@@ -78,13 +78,14 @@ impl Associations {
         self.rows
     }
 
-    /// Whether the row lists the item: its chain is walked, of which no cell can come twice.
+    /// Whether the row lists the item: its chain is walked, of which no cell can come twice. That there is none is told before a walk begins.
     pub fn lists(&self, row: &Row, item: Place<64>) -> bool
         ensures { result ≡ row_lists self.now.cells row.now item }
     {
-        iter::successors(self.cell(row.head), |cell| self.cell(cell.next))
-            .take(Self::CELLS)
-            .any(|cell| cell.item == item)
+        row.head.is_some()
+            && iter::successors(row.head, |place| self.cell(Some(*place))?.next)
+                .take(Self::CELLS)
+                .any(|place| self.cell(Some(place)).is_some_and(|cell| cell.item == item))
     }
 
     /// The cell at which a chain begins or goes on, if there is one.

@@ -36,14 +36,16 @@ impl Triples {
     pub fn new(associations: &Associations) -> Triples
         ensures { kept_leaf result ≡ triples_leaf (chart_of associations.now) no_candidates }
     {
+        let rows = associations.rows();
+        // `from_fn` calls this at indices below 64 alone, so the `requires` asks nothing and `as` loses nothing
+        let listing = array::from_fn(
+            |index| -> RowSet
+                requires { index < 64 }
+            { rows_with(&rows, associations, Place { index: index as u8 }) },
+        );
         Triples {
-            rows: associations.rows(),
-            // `from_fn` calls this at indices below 64 alone, so the `requires` asks nothing and `as` loses nothing
-            listing: array::from_fn(
-                |index| -> RowSet
-                    requires { index < 64 }
-                { rows_with(associations, Place { index: index as u8 }) },
-            ),
+            rows,
+            listing,
             candidates: [RowSet::none(); 32],
         }
     }
@@ -62,9 +64,11 @@ impl Triples {
     fn rows_of(&self, access: &Record) -> RowSet
         ensures { (k : ℕ) → has result k ≡ is_of (kept_chart self.now) access.now k }
     {
+        // read once, and not for each row
+        let owner = access.subject.owner;
         access.target.object.map_or(RowSet::none(), |procedure| {
             rows_where(&self.rows, |row| {
-                row.user == access.subject.owner && row.procedure == procedure
+                row.user == owner && row.procedure == procedure
             })
         })
     }
@@ -186,10 +190,10 @@ fn give_away_verdict(access: &Record) -> Verdict
 }
 
 /// The rows that list the item.
-fn rows_with(associations: &Associations, item: Place<64>) -> RowSet
-    ensures { (k : ℕ) → has result k ≡ (chart_of associations.now).lists k item }
+fn rows_with(rows: &[Option<Row>; 32], associations: &Associations, item: Place<64>) -> RowSet
+    ensures { (k : ℕ) → has result k ≡ row_has associations.now (row_at rows.now k) item }
 {
-    rows_where(&associations.rows(), |row| associations.lists(&row, item))
+    rows_where(rows, |row| associations.lists(&row, item))
 }
 
 /// The rows that pass the test. The `requires` says that the test may be made of any row.
