@@ -78,7 +78,7 @@ impl Associations {
         self.rows
     }
 
-    /// Whether the row lists the item: its chain is walked, of which no cell can come twice. That there is none is told before a walk begins.
+    /// Whether the row lists the item: its chain is walked, of which no cell can come twice. That a row has no chain is told before a walk begins.
     pub fn lists(&self, row: &Row, item: Place<64>) -> bool
         ensures { result ≡ row_lists self.now.cells row.now item }
     {
