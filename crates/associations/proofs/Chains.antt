@@ -14,12 +14,12 @@ use Rattle.associations.specs.declared.rows.Cell.{Cell}
 use Rattle.associations.specs.Associations.{cell_at, on_chain}
 
 module _ (cells : List (Option Cell)) where
-  -- the place with which a chain goes on after this one
-  abbrev pub goes_on : Option Cell → Option (Place 128)
+  -- the place with which a chain goes on after this cell
+  abbrev goes_on : Option Cell → Option (Place 128)
   goes_on None = None
   goes_on (Some cell) = cell.next
 
-  abbrev pub is_item : Place 64 → Option Cell → Bool
+  abbrev is_item : Place 64 → Option Cell → Bool
   is_item item None = false
   is_item item (Some cell) = eqb cell.item.index item.index
 
@@ -47,7 +47,7 @@ module _ (cells : List (Option Cell)) where
   unfolding on_chain chain
   any_of_chain item zero at = refl
   any_of_chain item (suc n) None = refl
-  any_of_chain item (suc n) (Some place) = any_from item n (cell_at cells (Some place)) (λ next. any_of_chain item n next)
+  any_of_chain item (suc n) (Some place) = any_from item n (cell_at cells (Some place)) (any_of_chain item n)
 
   none_left : (n : ℕ) (at : Option (Place 128)) → (0 < n → None ≡ at) → length (chain n at) ≡ 0
   unfolding chain

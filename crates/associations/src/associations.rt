@@ -78,7 +78,8 @@ impl Associations {
         self.rows
     }
 
-    /// Whether the row lists the item: its chain is walked, of which no cell can come twice. That a row has no chain is told before a walk begins.
+    /// Whether the row lists the item: its chain is walked, of which no cell can come twice. A row without a chain is answered first, since to
+    /// begin a walk costs more.
     pub fn lists(&self, row: &Row, item: Place<64>) -> bool
         ensures { result ≡ row_lists self.now.cells row.now item }
     {
